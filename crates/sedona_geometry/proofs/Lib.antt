@@ -1,0 +1,4 @@
+pub mod MinMax
+pub mod Order
+pub mod Rounding
+pub mod Sign

@@ -1,0 +1,32 @@
+-- `WraparoundInterval::merge_interval` meets its contract. Assumes nothing.
+use Rattle.sedona_geometry.specs.WraparoundInterval.{mergeInterval}
+use Rattle.sedona_geometry.proofs.interval.WraparoundInterval.merge_interval.Statement.{statement}
+use Rattle.sedona_geometry.proofs.interval.WraparoundInterval.merge_interval.Tie as tie
+
+returns : tie.Need-returns
+unfolding mergeInterval
+returns c = rw (← c .before .is-empty .ensures, c .if1 .taken)
+
+returns-2 : tie.Need-returns-2
+unfolding mergeInterval
+returns-2 c =
+    rw (
+      ← c .before .before .before .is-empty .ensures,
+      c .before .before .if1 .left,
+      ← c .before .is-empty2 .ensures,
+      c .if2 .taken,
+    )
+
+returns-3 : tie.Need-returns-3
+unfolding mergeInterval
+returns-3 c =
+    rw (
+      c .merge-non-empty .ensures,
+      ← c .before .before .before .before .is-empty .ensures,
+      c .before .before .before .if1 .left,
+      ← c .before .before .is-empty2 .ensures,
+      c .before .if2 .left,
+    )
+
+pub merge-interval-spec : {M : Type 1} → statement M
+merge-interval-spec = tie.close (tie.spec (λ c κs. tt) returns (λ c κs. tt) returns-2 (λ c κs. tt) returns-3)

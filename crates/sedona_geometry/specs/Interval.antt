@@ -1,0 +1,59 @@
+-- `Interval` of interval.rs, method by method.
+use mathlib.Core.Bool.{Bool, true, false, _&&_, _||_, cond}
+use lib.Ieee.{Float, inf, binary64, add, sub, div, lt, le, eq, isNan}
+use Rattle.sedona_geometry.specs.Float as float
+use Rattle.sedona_geometry.specs.declared.interval.Interval.{Interval}
+
+abbrev pub new : Float → Float → Interval
+new lo hi = record { lo = lo; hi = hi }
+
+abbrev pub empty : Interval
+empty = new (inf false) (inf true)
+
+abbrev pub full : Interval
+full = new (inf true) (inf false)
+
+-- The interval accepts the value.
+unfoldable pub intersectsValue : Interval → Float → Bool
+intersectsValue i v = le (i .lo) v && le v (i .hi)
+
+unfoldable pub intersectsInterval : Interval → Interval → Bool
+intersectsInterval i j = le (i .lo) (j .hi) && le (j .lo) (i .hi)
+
+unfoldable pub containsInterval : Interval → Interval → Bool
+containsInterval i j = le (i .lo) (j .lo) && le (j .hi) (i .hi)
+
+-- The width: hi − lo, rounded once.
+abbrev pub width : Interval → Float
+width i = sub binary64 (i .hi) (i .lo)
+
+-- The midpoint: lo + (hi − lo) / 2, rounded at each of the three operations.
+abbrev pub mid : Interval → Float
+mid i = add binary64 (i .lo) (div binary64 (width i) float.two)
+
+-- Empty: the width is −inf. (MAX, −MAX) is empty too, since its width rounds there.
+unfoldable pub isEmpty : Interval → Bool
+isEmpty i = eq (width i) (inf true)
+
+unfoldable pub isFull : Interval → Bool
+isFull i = eq (i .lo) (inf true) && eq (i .hi) (inf false)
+
+unfoldable pub mergeInterval : Interval → Interval → Interval
+mergeInterval i j = new (float.minNum (i .lo) (j .lo)) (float.maxNum (i .hi) (j .hi))
+
+unfoldable pub mergeValue : Interval → Float → Interval
+mergeValue i v = new (float.minNum (i .lo) v) (float.maxNum (i .hi) v)
+
+-- Expanding changes nothing: the interval is empty, or the distance is NaN or negative.
+unfoldable pub isUnmovedBy : Interval → Float → Bool
+isUnmovedBy i d = isEmpty i || isNan d || lt d float.zero
+
+unfoldable pub expandBy : Interval → Float → Interval
+expandBy i d = cond (isUnmovedBy i d) i (new (sub binary64 (i .lo) d) (add binary64 (i .hi) d))
+
+-- The interval from lo to hi, empty where hi is below lo.
+abbrev pub ordered : Float → Float → Interval
+ordered lo hi = cond (lt hi lo) empty (new lo hi)
+
+unfoldable pub intersection : Interval → Interval → Interval
+intersection i j = ordered (float.maxNum (i .lo) (j .lo)) (float.minNum (i .hi) (j .hi))

@@ -1,0 +1,4 @@
+pub mod Error
+pub mod Float
+pub mod Interval
+pub mod WraparoundInterval
