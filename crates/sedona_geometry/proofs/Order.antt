@@ -216,12 +216,25 @@ below-bottom {x = inf true} h = refl
 below-bottom {x = inf false} h = absurd (h .test)
 below-bottom {x = fin s m e} h = absurd (h .test)
 
+pub eq-inf : (x : Float) (s : Bool) → T (eq x (inf s)) → x ≡ inf s
+unfolding eq
+eq-inf nan s h = absurd h
+eq-inf (inf true) true h = refl
+eq-inf (inf true) false h = absurd h
+eq-inf (inf false) true h = absurd h
+eq-inf (inf false) false h = refl
+eq-inf (fin t m e) s h = absurd h
+
 -- ---- a total preorder of the numbers
 pub le-refl : {x : Float} → Number x → Le x x
 unfolding le
 le-refl (infinite {s = true}) = record { test = tt }
 le-refl (infinite {s = false}) = record { test = tt }
 le-refl (finite {s} {m} {e}) = →le-fin s m e s m e (omega arith)
+
+pub top-not-bottom : inf false ≡ inf true → ⊥
+unfolding le
+top-not-bottom e = subst (λ (z : Float). Le (inf false) z) e (le-refl infinite) .test
 
 chain : (a p d b q f c r g : ℕ) → 0 < f → a * f + q * d ≤ b * d + p * f → b * g + r * f ≤ c * f + q * g → a * g + r * d ≤ c * d + p * g
 chain a p d b q f c r g F h k = le-of-mul-le-mul-right (omega (arith, mul-le-mul-right g h, mul-le-mul-right d k)) F

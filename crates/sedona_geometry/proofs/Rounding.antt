@@ -15,7 +15,7 @@ use lib.Ieee.Fits.{down-pos, and-l, and-r, round-is}
 use lib.Ieee.Order.{round-mono, drop, kept}
 use lib.Ieee.Scale.{round-same}
 use Rattle.sedona_geometry.specs.Float as float
-use Rattle.sedona_geometry.proofs.Order.{Number, infinite, finite, Le, Lt, over, under, over-mul, under-mul, cross, le-fin→, →le-fin, ℕ-le-or-lt, le-number, lt-number, bottom, top, above-top, below-bottom, le-refl, le-trans, le-or-lt, lt-not-le, lt-le-trans, lt-of-not-le, le-of-eq, eq-of-le, nan-or-number, number-no-nan}
+use Rattle.sedona_geometry.proofs.Order.{Number, infinite, finite, Le, Lt, over, under, over-mul, under-mul, cross, le-fin→, →le-fin, ℕ-le-or-lt, le-number, lt-number, bottom, top, above-top, below-bottom, le-refl, le-trans, le-or-lt, lt-not-le, lt-le-trans, lt-of-not-le, le-of-eq, eq-of-le, nan-or-number, number-no-nan, top-not-bottom}
 
 -- ---- the other sign turns the order around
 over-not : (s : Bool) (a : ℕ) → over (not s) a ≡ under s a
@@ -353,10 +353,6 @@ sub-nan f (inf false) (inf false) F G X Y h = (false, refl, refl)
 sub-nan f (inf s) (fin t n d) F G X Y h = absurd (number-no-nan infinite h)
 sub-nan f (fin s m e) (inf t) F G X Y h = absurd (number-no-nan infinite h)
 sub-nan f (fin s m e) (fin t n d) F G X Y h = absurd (number-no-nan (sub-fin-number f s m e t n d F G) h)
-
-top-not-bottom : inf false ≡ inf true → ⊥
-unfolding le
-top-not-bottom e = subst (λ (z : Float). Le (inf false) z) e (le-refl infinite) .test
 
 -- ---- the laws of a rounded difference
 module _ (f : Format) where

@@ -1,8 +1,23 @@
 -- `Interval` of interval.rs, method by method.
+use mathlib.Core.Path.{_≡_}
 use mathlib.Core.Bool.{Bool, true, false, _&&_, _||_, cond}
-use lib.Ieee.{Float, inf, binary64, add, sub, div, lt, le, eq, isNan}
+use lib.Dec.{T}
+use lib.Ieee.{Float, inf, binary64, add, sub, div, lt, le, eq, isNan, fits}
 use Rattle.sedona_geometry.specs.Float as float
 use Rattle.sedona_geometry.specs.declared.interval.Interval.{Interval}
+
+-- Both ends are doubles, as they are of every interval in the code.
+pub record Doubles (i : Interval) : Type 0 where
+  pub lo : T (fits binary64 (i .lo))
+  pub hi : T (fits binary64 (i .hi))
+
+-- 01's "low to high".
+abbrev pub isLowToHigh : Interval → Bool
+isLowToHigh i = le (i .lo) (i .hi)
+
+-- 01's "having NaN": at either end.
+abbrev pub hasNan : Interval → Bool
+hasNan i = isNan (i .lo) || isNan (i .hi)
 
 abbrev pub new : Float → Float → Interval
 new lo hi = record { lo = lo; hi = hi }
@@ -16,6 +31,10 @@ full = new (inf true) (inf false)
 -- The interval accepts the value.
 unfoldable pub intersectsValue : Interval → Float → Bool
 intersectsValue i v = le (i .lo) v && le v (i .hi)
+
+-- 01's "accepts".
+pub record Accepts (i : Interval) (v : Float) : Type 0 where
+  pub holds : intersectsValue i v ≡ true
 
 unfoldable pub intersectsInterval : Interval → Interval → Bool
 intersectsInterval i j = le (i .lo) (j .hi) && le (j .lo) (i .hi)

@@ -1,4 +1,5 @@
 pub mod Error
 pub mod Float
 pub mod Interval
+pub mod Marked
 pub mod WraparoundInterval

@@ -1,4 +1,5 @@
 -- `WraparoundInterval` of interval.rs, method by method.
+use mathlib.Core.Path.{_≡_}
 use mathlib.Core.Bool.{Bool, true, false, not, _&&_, _||_, cond}
 use lib.Ieee.{Float, inf, binary64, add, sub, lt, le, isNan}
 use Rattle.sedona_geometry.specs.Error as error
@@ -46,6 +47,10 @@ split x = cond (isWraparound x) (wrappedPieces (x .inner)) (record { left = x .i
 -- The x accepts the value: one of its pieces does.
 unfoldable pub intersectsValue : WraparoundInterval → Float → Bool
 intersectsValue x v = interval.intersectsValue (split x .left) v || interval.intersectsValue (split x .right) v
+
+-- 01's "accepts".
+pub record Accepts (x : WraparoundInterval) (v : Float) : Type 0 where
+  pub holds : intersectsValue x v ≡ true
 
 -- The interval intersects one of the pieces.
 unfoldable pub piecesIntersect : Pieces → Interval → Bool

@@ -1,0 +1,72 @@
+-- What a plain interval accepts: nothing where it is empty, and nothing is lost by merging. Assumes nothing.
+use mathlib.Core.Path.{_≡_, refl, sym, subst}
+use mathlib.Core.Bool.{Bool, true, false, _&&_}
+use lib.Dec.{T}
+use lib.Ieee.{Float, inf, binary64, sub, le, eq, fits}
+use lib.Ieee.Fits.{and-l, and-r, and-i, inf-fits}
+use Rattle.sedona_geometry.specs.Float.{minNum, maxNum}
+use Rattle.sedona_geometry.specs.Interval.{Doubles, Accepts, new, empty, width, intersectsValue, intersectsInterval, containsInterval, isEmpty, mergeInterval, mergeValue}
+use Rattle.sedona_geometry.specs.declared.interval.Interval.{Interval}
+use Rattle.sedona_geometry.proofs.Order.{Number, Le, holds, is-true, le-refl, le-trans, le-number, eq-inf}
+use Rattle.sedona_geometry.proofs.MinMax.{min-le-left, min-le-right, min-fits, max-ge-left, max-ge-right, max-fits}
+use Rattle.sedona_geometry.proofs.Rounding.{sub-not-bottom}
+
+-- ---- between the ends
+pub between : {i : Interval} {v : Float} → Accepts i v → Le (i .lo) v × Le v (i .hi)
+unfolding intersectsValue
+between {i} {v} h = (record { test = and-l (le (i .lo) v) (le v (i .hi)) (holds (h .holds)) }, record { test = and-r (le (i .lo) v) (le v (i .hi)) (holds (h .holds)) })
+
+pub accepts : {i : Interval} {v : Float} → Le (i .lo) v → Le v (i .hi) → Accepts i v
+unfolding intersectsValue
+accepts {i} {v} h k = record { holds = is-true (intersectsValue i v) (and-i (le (i .lo) v) (le v (i .hi)) (h .test) (k .test)) }
+
+pub accepts-low-to-high : {i : Interval} {v : Float} → Accepts i v → Le (i .lo) (i .hi)
+accepts-low-to-high h = le-trans (between h .0) (between h .1)
+
+pub accepts-number : {i : Interval} {v : Float} → Accepts i v → Number v
+accepts-number h = le-number (between h .1) .0
+
+-- ---- an empty interval accepts nothing
+pub empty-not-low-to-high : {i : Interval} → Doubles i → isEmpty i ≡ true → Le (i .lo) (i .hi) → ⊥
+unfolding isEmpty
+empty-not-low-to-high {i} D e h = sub-not-bottom binary64 (D .hi) (D .lo) h (eq-inf (width i) true (holds e))
+
+pub empty-accepts-nothing : {i : Interval} {v : Float} → Doubles i → isEmpty i ≡ true → Accepts i v → ⊥
+empty-accepts-nothing D e h = empty-not-low-to-high D e (accepts-low-to-high h)
+
+-- ---- merging loses nothing
+pub merge-accepts-left : {i : Interval} {v : Float} (j : Interval) → Accepts i v → Accepts (mergeInterval i j) v
+unfolding mergeInterval
+merge-accepts-left j h = accepts (min-le-left (j .lo) (between h .0)) (max-ge-left (j .hi) (between h .1))
+
+pub merge-accepts-right : (i : Interval) {j : Interval} {v : Float} → Accepts j v → Accepts (mergeInterval i j) v
+unfolding mergeInterval
+merge-accepts-right i h = accepts (min-le-right (i .lo) (between h .0)) (max-ge-right (i .hi) (between h .1))
+
+pub merge-value-keeps : {i : Interval} {v : Float} (w : Float) → Accepts i v → Accepts (mergeValue i w) v
+unfolding mergeValue
+merge-value-keeps w h = accepts (min-le-left w (between h .0)) (max-ge-left w (between h .1))
+
+pub merge-value-accepts : (i : Interval) {v : Float} → Number v → Accepts (mergeValue i v) v
+unfolding mergeValue
+merge-value-accepts i N = accepts (min-le-right (i .lo) (le-refl N)) (max-ge-right (i .hi) (le-refl N))
+
+pub merge-doubles : {i j : Interval} → Doubles i → Doubles j → Doubles (mergeInterval i j)
+unfolding mergeInterval
+merge-doubles {i} {j} D E = record {
+  lo = min-fits binary64 (i .lo) (j .lo) (D .lo) (E .lo);
+  hi = max-fits binary64 (i .hi) (j .hi) (D .hi) (E .hi);
+}
+
+pub merge-value-doubles : {i : Interval} (v : Float) → Doubles i → T (fits binary64 v) → Doubles (mergeValue i v)
+unfolding mergeValue
+merge-value-doubles {i} v D F = record {
+  lo = min-fits binary64 (i .lo) v (D .lo) F;
+  hi = max-fits binary64 (i .hi) v (D .hi) F;
+}
+
+-- ---- two that accept a common number intersect
+pub common-intersect : {i j : Interval} {v : Float} → Accepts i v → Accepts j v → intersectsInterval i j ≡ true
+unfolding intersectsInterval
+common-intersect {i} {j} h k =
+    is-true (intersectsInterval i j) (and-i (le (i .lo) (j .hi)) (le (j .lo) (i .hi)) (le-trans (between h .0) (between k .1) .test) (le-trans (between k .0) (between h .1) .test))

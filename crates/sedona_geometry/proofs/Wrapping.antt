@@ -1,0 +1,308 @@
+-- What an x accepts, wrapped or not: nothing where it is empty, and nothing is lost by merging. Assumes nothing.
+use mathlib.Core.Path.{_≡_, refl, sym, subst, _∙_, ap}
+use mathlib.Core.Logic.{_⊎_, inl, inr, ⊎-elim}
+use mathlib.Core.Bool.{Bool, true, false, not, _&&_, _||_, cond}
+use lib.Dec.{T, not-T, T-not}
+use lib.Ieee.{Float, inf, binary64, sub, lt, le, eq, isNan, fits}
+use lib.Ieee.Fits.{and-l, and-r, and-i, inf-fits}
+use Rattle.sedona_geometry.specs.Float as float
+use Rattle.sedona_geometry.specs.Interval as interval
+use Rattle.sedona_geometry.specs.Interval.{Doubles}
+use Rattle.sedona_geometry.specs.WraparoundInterval.{Accepts, fromInterval, new, full, isEmpty, isWraparound, wrappedPieces, split, intersectsValue, piecesIntersect, intersectsInterval, fromPieces, mergeWrapped, nearerLeft, mergePlain, mergeNonEmpty, mergeInterval, moveEnd, mergeValue}
+use Rattle.sedona_geometry.specs.declared.interval.Interval.{Interval}
+use Rattle.sedona_geometry.specs.declared.interval.WraparoundInterval.{WraparoundInterval}
+use Rattle.sedona_geometry.specs.declared.interval.Pieces.{Pieces}
+use Rattle.sedona_geometry.proofs.Order.{Number, infinite, Le, Lt, holds, fails, is-true, is-false, or-left, or-right, or-cases, le-of-lt, le-refl, le-trans, le-number, lt-number, lt-of-not-le, bottom, top, eq-inf, above-top, below-bottom, top-not-bottom, number-of-test, number-test}
+use Rattle.sedona_geometry.proofs.MinMax.{min-le-left, max-ge-left}
+use Rattle.sedona_geometry.proofs.Rounding.{sub-not-neg, sub-neg, lt-of-sub-neg, sub-wider}
+use Rattle.sedona_geometry.proofs.Accepts as plain
+
+-- ---- which x wrap
+pub wrapped-not-empty : (x : WraparoundInterval) → isWraparound x ≡ true → T (isEmpty x) → ⊥
+unfolding isWraparound
+wrapped-not-empty x w = T-not (isEmpty x) (and-l (not (isEmpty x)) (lt (interval.width (x .inner)) float.zero) (holds w))
+
+pub wrapped-high-to-low : {x : WraparoundInterval} → Doubles (x .inner) → isWraparound x ≡ true → Lt (x .inner .hi) (x .inner .lo)
+unfolding isWraparound
+wrapped-high-to-low {x} D w =
+    lt-of-sub-neg binary64 (x .inner .hi) (x .inner .lo) (D .hi) (D .lo) (record { test = and-r (not (isEmpty x)) (lt (interval.width (x .inner)) float.zero) (holds w) })
+
+pub low-to-high-plain : {x : WraparoundInterval} → Doubles (x .inner) → Le (x .inner .lo) (x .inner .hi) → isWraparound x ≡ false
+unfolding isWraparound
+low-to-high-plain {x} D h =
+    is-false (isWraparound x) (λ w. sub-not-neg binary64 (D .hi) (D .lo) h (record { test = and-r (not (isEmpty x)) (lt (interval.width (x .inner)) float.zero) w }))
+
+-- one that is wider than a wrapped one, and still ends below its start, wraps
+pub wider-wraps : {x y : WraparoundInterval} → Doubles (x .inner) → Doubles (y .inner) → isWraparound x ≡ true
+    → Le (y .inner .lo) (x .inner .lo) → Le (x .inner .hi) (y .inner .hi) → Lt (y .inner .hi) (y .inner .lo) → isWraparound y ≡ true
+unfolding isWraparound interval.isEmpty eq
+wider-wraps {x} {y} D E w h k l =
+    is-true (isWraparound y)
+    (and-i (not (isEmpty y)) (lt (interval.width (y .inner)) float.zero)
+    (not-T (isEmpty y) (λ e.
+    sub-wider binary64 (D .hi) (D .lo) (E .hi) (E .lo) h k
+    (λ n. wrapped-not-empty x w (subst (λ (z : Float). T (eq z (inf true))) (sym n) tt)) (eq-inf (interval.width (y .inner)) true e)))
+    (sub-neg binary64 (E .hi) (E .lo) l .test))
+
+-- ---- the pieces
+pub split-wrapped : (x : WraparoundInterval) → isWraparound x ≡ true → split x ≡ wrappedPieces (x .inner)
+unfolding split
+split-wrapped x w = rw w
+
+pub split-plain : (x : WraparoundInterval) → isWraparound x ≡ false → split x ≡ record { left = x .inner; right = interval.empty }
+unfolding split
+split-plain x w = rw w
+
+pub accepts-left : {x : WraparoundInterval} {v : Float} → interval.Accepts (split x .left) v → Accepts x v
+unfolding intersectsValue
+accepts-left {x} {v} h =
+    record { holds = is-true (intersectsValue x v) (or-left (interval.intersectsValue (split x .left) v) (interval.intersectsValue (split x .right) v) (holds (h .holds))) }
+
+pub accepts-right : {x : WraparoundInterval} {v : Float} → interval.Accepts (split x .right) v → Accepts x v
+unfolding intersectsValue
+accepts-right {x} {v} h =
+    record { holds = is-true (intersectsValue x v) (or-right (interval.intersectsValue (split x .left) v) (interval.intersectsValue (split x .right) v) (holds (h .holds))) }
+
+pub accepts-cases : {x : WraparoundInterval} {v : Float} → Accepts x v → interval.Accepts (split x .left) v ⊎ interval.Accepts (split x .right) v
+unfolding intersectsValue
+accepts-cases {x} {v} h =
+    ⊎-elim (λ a. inl (record { holds = is-true (interval.intersectsValue (split x .left) v) a })) (λ b. inr (record { holds = is-true (interval.intersectsValue (split x .right) v) b }))
+    (or-cases (interval.intersectsValue (split x .left) v) (interval.intersectsValue (split x .right) v) (holds (h .holds)))
+
+-- ---- an x that does not wrap accepts what its interval does
+pub none-accepted : {v : Float} → interval.Accepts interval.empty v → ⊥
+none-accepted h = top-not-bottom (below-bottom (le-trans (plain.between h .0) (plain.between h .1)))
+
+pub plain-of-accepts : {x : WraparoundInterval} {v : Float} → isWraparound x ≡ false → Accepts x v → interval.Accepts (x .inner) v
+plain-of-accepts {x} {v} w h = ⊎-elim (λ a. a) (λ b. absurd (none-accepted b)) (subst (λ p. interval.Accepts (p .left) v ⊎ interval.Accepts (p .right) v) (split-plain x w) (accepts-cases h))
+
+pub accepts-of-plain : {x : WraparoundInterval} {v : Float} → Doubles (x .inner) → interval.Accepts (x .inner) v → Accepts x v
+accepts-of-plain {x} {v} D h =
+    accepts-left (subst (λ p. interval.Accepts (p .left) v) (sym (split-plain x (low-to-high-plain D (plain.accepts-low-to-high h)))) h)
+
+pub infinite-doubles : (s t : Bool) → Doubles (interval.new (inf s) (inf t))
+infinite-doubles s t = record { lo = inf-fits binary64 s; hi = inf-fits binary64 t }
+
+pub full-accepts : {v : Float} → Number v → Accepts full v
+full-accepts N = accepts-of-plain (infinite-doubles true false) (plain.accepts (bottom N) (top N))
+
+pub empty-not-wrapped : (x : WraparoundInterval) → isEmpty x ≡ true → isWraparound x ≡ false
+empty-not-wrapped x e = is-false (isWraparound x) (λ w. wrapped-not-empty x (is-true (isWraparound x) w) (holds e))
+
+pub empty-accepts-nothing : {x : WraparoundInterval} {v : Float} → Doubles (x .inner) → isEmpty x ≡ true → Accepts x v → ⊥
+empty-accepts-nothing {x} D e h = plain.empty-accepts-nothing D e (plain-of-accepts (empty-not-wrapped x e) h)
+
+-- ---- a wrapped x accepts what lies up to hi and from lo on
+pub wrapped-accepts-left : {x : WraparoundInterval} {v : Float} → isWraparound x ≡ true → Le v (x .inner .hi) → Accepts x v
+wrapped-accepts-left {x} {v} w h = accepts-left (subst (λ p. interval.Accepts (p .left) v) (sym (split-wrapped x w)) (plain.accepts (bottom (le-number h .0)) h))
+
+pub wrapped-accepts-right : {x : WraparoundInterval} {v : Float} → isWraparound x ≡ true → Le (x .inner .lo) v → Accepts x v
+wrapped-accepts-right {x} {v} w h = accepts-right (subst (λ p. interval.Accepts (p .right) v) (sym (split-wrapped x w)) (plain.accepts h (top (le-number h .1))))
+
+pub wrapped-cases : {x : WraparoundInterval} {v : Float} → isWraparound x ≡ true → Accepts x v → Le v (x .inner .hi) ⊎ Le (x .inner .lo) v
+wrapped-cases {x} {v} w h =
+    ⊎-elim (λ a. inl (plain.between a .1)) (λ b. inr (plain.between b .0)) (subst (λ p. interval.Accepts (p .left) v ⊎ interval.Accepts (p .right) v) (split-wrapped x w) (accepts-cases h))
+
+-- ---- joining two pieces that reach around those of a wrapped x
+record Around (x : WraparoundInterval) (l r : Interval) : Type 0 where
+  left-lo : Le (l .lo) (inf true)
+  left-hi : Le (x .inner .hi) (l .hi)
+  right-lo : Le (r .lo) (x .inner .lo)
+  right-hi : Le (inf false) (r .hi)
+
+from-pieces-accepts : {x : WraparoundInterval} {l r : Interval} {v : Float} → Doubles (x .inner) → Doubles l → Doubles r → isWraparound x ≡ true → Around x l r
+    → interval.Accepts l v ⊎ interval.Accepts r v → Accepts (fromPieces l r) v
+unfolding fromPieces interval.intersectsInterval
+from-pieces-accepts {x} {l} {r} {v} D L R w a h = go (interval.intersectsInterval l r) refl
+  where
+    apart : interval.intersectsInterval l r ≡ false → Lt (l .hi) (r .lo)
+    apart e =
+        lt-of-not-le (le-number (a .right-lo) .0) (le-number (a .left-hi) .1) (λ k.
+        fails e
+        (and-i (le (l .lo) (r .hi)) (le (r .lo) (l .hi)) (le-trans (a .left-lo) (bottom (le-number (a .right-hi) .1)) .test) (k .test)))
+
+    wraps : interval.intersectsInterval l r ≡ false → isWraparound (new (r .lo) (l .hi)) ≡ true
+    wraps e = wider-wraps D (record { lo = R .lo; hi = L .hi }) w (a .right-lo) (a .left-hi) (apart e)
+
+    go : (b : Bool) → interval.intersectsInterval l r ≡ b → Accepts (cond b full (new (r .lo) (l .hi))) v
+    go true e = full-accepts (⊎-elim plain.accepts-number plain.accepts-number h)
+    go false e = ⊎-elim (λ k. wrapped-accepts-left (wraps e) (plain.between k .1)) (λ k. wrapped-accepts-right (wraps e) (plain.between k .0)) h
+
+split-doubles : (x : WraparoundInterval) → Doubles (x .inner) → Doubles (split x .left) × Doubles (split x .right)
+unfolding split
+split-doubles x D = go (isWraparound x)
+  where
+    go : (b : Bool) → let p : Pieces = cond b (wrappedPieces (x .inner)) (record { left = x .inner; right = interval.empty }) in Doubles (p .left) × Doubles (p .right)
+    go true = (record { lo = inf-fits binary64 true; hi = D .hi }, record { lo = D .lo; hi = inf-fits binary64 false })
+    go false = (D, infinite-doubles false true)
+
+-- ---- merging loses nothing
+merge-around-left : (i j : Interval) → Number (i .lo) → Le (interval.mergeInterval i j .lo) (i .lo)
+unfolding interval.mergeInterval
+merge-around-left i j N = min-le-left (j .lo) (le-refl N)
+
+merge-around-right : (i j : Interval) → Number (i .hi) → Le (i .hi) (interval.mergeInterval i j .hi)
+unfolding interval.mergeInterval
+merge-around-right i j N = max-ge-left (j .hi) (le-refl N)
+
+module _ (x : WraparoundInterval) (D : Doubles (x .inner)) (w : isWraparound x ≡ true) where
+  lo-number : Number (x .inner .lo)
+  lo-number = lt-number (wrapped-high-to-low D w) .1
+
+  hi-number : Number (x .inner .hi)
+  hi-number = lt-number (wrapped-high-to-low D w) .0
+
+  around-pieces : Around x (split x .left) (split x .right)
+  around-pieces = rw (split-wrapped x w) (record { left-lo = le-refl infinite; left-hi = le-refl hi-number; right-lo = le-refl lo-number; right-hi = le-refl infinite })
+
+  -- around a piece, around what it is merged with
+  around-left : {l r : Interval} (j : Interval) → Around x l r → Around x (interval.mergeInterval l j) r
+  around-left {l} j a = record {
+    left-lo = le-trans (merge-around-left l j (le-number (a .left-lo) .0)) (a .left-lo);
+    left-hi = le-trans (a .left-hi) (merge-around-right l j (le-number (a .left-hi) .1));
+    right-lo = a .right-lo;
+    right-hi = a .right-hi;
+  }
+
+  around-right : {l r : Interval} (j : Interval) → Around x l r → Around x l (interval.mergeInterval r j)
+  around-right {r = r} j a = record {
+    left-lo = a .left-lo;
+    left-hi = a .left-hi;
+    right-lo = le-trans (merge-around-left r j (le-number (a .right-lo) .0)) (a .right-lo);
+    right-hi = le-trans (a .right-hi) (merge-around-right r j (le-number (a .right-hi) .1));
+  }
+
+  merge-wrapped-accepts : {y : WraparoundInterval} {v : Float} → Doubles (y .inner) → Accepts x v ⊎ Accepts y v → Accepts (mergeWrapped x y) v
+  unfolding mergeWrapped
+  merge-wrapped-accepts {y} {v} E h =
+      from-pieces-accepts D
+      (plain.merge-doubles (split-doubles x D .0) (split-doubles y E .0)) (plain.merge-doubles (split-doubles x D .1) (split-doubles y E .1))
+      w (around-left (split y .left) (around-right (split y .right) around-pieces))
+      (⊎-elim
+      (λ a. ⊎-elim (λ k. inl (plain.merge-accepts-left (split y .left) k)) (λ k. inr (plain.merge-accepts-left (split y .right) k)) (accepts-cases a))
+      (λ b. ⊎-elim (λ k. inl (plain.merge-accepts-right (split x .left) k)) (λ k. inr (plain.merge-accepts-right (split x .right) k)) (accepts-cases b))
+      h)
+
+  -- whichever piece the plain one joins
+  merge-plain-accepts : {y : WraparoundInterval} {v : Float} → Doubles (y .inner) → isWraparound y ≡ false → Accepts x v ⊎ Accepts y v → Accepts (mergePlain x y) v
+  unfolding mergePlain
+  merge-plain-accepts {y} {v} E u h = go (nearerLeft x y)
+    where
+      go : (b : Bool) → Accepts (cond b (fromPieces (interval.mergeInterval (split x .left) (y .inner)) (split x .right)) (fromPieces (split x .left) (interval.mergeInterval (split x .right) (y .inner)))) v
+      go true =
+          from-pieces-accepts D (plain.merge-doubles (split-doubles x D .0) E) (split-doubles x D .1) w (around-left (y .inner) around-pieces)
+          (⊎-elim
+          (λ a. ⊎-elim (λ k. inl (plain.merge-accepts-left (y .inner) k)) (λ k. inr k) (accepts-cases a))
+          (λ b. inl (plain.merge-accepts-right (split x .left) (plain-of-accepts u b)))
+          h)
+      go false =
+          from-pieces-accepts D (split-doubles x D .0) (plain.merge-doubles (split-doubles x D .1) E) w (around-right (y .inner) around-pieces)
+          (⊎-elim
+          (λ a. ⊎-elim (λ k. inl k) (λ k. inr (plain.merge-accepts-left (y .inner) k)) (accepts-cases a))
+          (λ b. inr (plain.merge-accepts-right (split x .right) (plain-of-accepts u b)))
+          h)
+
+swap : {A B : Type 0} → A ⊎ B → B ⊎ A
+swap h = ⊎-elim (λ a. inr a) (λ b. inl b) h
+
+merge-non-empty-accepts : {x y : WraparoundInterval} {v : Float} → Doubles (x .inner) → Doubles (y .inner) → Accepts x v ⊎ Accepts y v → Accepts (mergeNonEmpty x y) v
+unfolding mergeNonEmpty
+merge-non-empty-accepts {x} {y} {v} D E h = go (isWraparound x) (isWraparound y) refl refl
+  where
+    go : (a b : Bool) → isWraparound x ≡ a → isWraparound y ≡ b
+        → Accepts (cond a (cond b (mergeWrapped x y) (mergePlain x y)) (cond b (mergePlain y x) (fromInterval (interval.mergeInterval (x .inner) (y .inner))))) v
+    go true true w u = merge-wrapped-accepts x D w E h
+    go true false w u = merge-plain-accepts x D w E u h
+    go false true w u = merge-plain-accepts y E u D w (swap h)
+    go false false w u =
+        accepts-of-plain (plain.merge-doubles D E)
+        (⊎-elim (λ a. plain.merge-accepts-left (y .inner) (plain-of-accepts w a)) (λ b. plain.merge-accepts-right (x .inner) (plain-of-accepts u b)) h)
+
+pub merge-accepts : {x y : WraparoundInterval} {v : Float} → Doubles (x .inner) → Doubles (y .inner) → Accepts x v ⊎ Accepts y v → Accepts (mergeInterval x y) v
+unfolding mergeInterval
+merge-accepts {x} {y} {v} D E h = go (isEmpty x) (isEmpty y) refl refl
+  where
+    go : (a b : Bool) → isEmpty x ≡ a → isEmpty y ≡ b → Accepts (cond a y (cond b x (mergeNonEmpty x y))) v
+    go true b e f = ⊎-elim (λ k. absurd (empty-accepts-nothing D e k)) (λ k. k) h
+    go false true e f = ⊎-elim (λ k. k) (λ k. absurd (empty-accepts-nothing E f k)) h
+    go false false e f = merge-non-empty-accepts D E h
+
+-- ---- merging a value
+module _ {x : WraparoundInterval} {v : Float} (D : Doubles (x .inner)) (F : T (fits binary64 v)) where
+  -- the value lies between the ends of a wrapped x that does not accept it
+  between-ends : isWraparound x ≡ true → Number v → (Accepts x v → ⊥) → Lt (x .inner .hi) v × Lt v (x .inner .lo)
+  between-ends w N n =
+      (lt-of-not-le N (hi-number x D w) (λ k. n (wrapped-accepts-left w k)), lt-of-not-le (lo-number x D w) N (λ k. n (wrapped-accepts-right w k)))
+
+  -- whichever end moves
+  move-end-accepts : {u : Float} → isWraparound x ≡ true → Number v → (Accepts x v → ⊥) → Accepts x u ⊎ (u ≡ v) → Accepts (moveEnd x v) u
+  unfolding moveEnd
+  move-end-accepts {u} w N n h = go (lt (sub binary64 v (x .inner .hi)) (sub binary64 (x .inner .lo) v))
+    where
+      b : Lt (x .inner .hi) v × Lt v (x .inner .lo)
+      b = between-ends w N n
+
+      same : u ≡ v → Le u v × Le v u
+      same e = subst (λ (z : Float). Le z v × Le v z) (sym e) (le-refl N, le-refl N)
+
+      go : (t : Bool) → Accepts (cond t (new (x .inner .lo) v) (new v (x .inner .hi))) u
+      go true =
+          let w' : isWraparound (new (x .inner .lo) v) ≡ true = wider-wraps D (record { lo = D .lo; hi = F }) w (le-refl (lo-number x D w)) (le-of-lt (b .0)) (b .1) in
+          ⊎-elim
+          (λ a. ⊎-elim (λ k. wrapped-accepts-left w' (le-trans k (le-of-lt (b .0)))) (λ k. wrapped-accepts-right w' k) (wrapped-cases w a))
+          (λ e. wrapped-accepts-left w' (same e .0))
+          h
+      go false =
+          let w' : isWraparound (new v (x .inner .hi)) ≡ true = wider-wraps D (record { lo = F; hi = D .hi }) w (le-of-lt (b .1)) (le-refl (hi-number x D w)) (b .0) in
+          ⊎-elim
+          (λ a. ⊎-elim (λ k. wrapped-accepts-left w' k) (λ k. wrapped-accepts-right w' (le-trans (le-of-lt (b .1)) k)) (wrapped-cases w a))
+          (λ e. wrapped-accepts-right w' (same e .1))
+          h
+
+  merge-new-value : {u : Float} → Number v → (Accepts x v → ⊥) → Accepts x u ⊎ (u ≡ v)
+      → Accepts (cond (not (isWraparound x)) (fromInterval (interval.mergeValue (x .inner) v)) (moveEnd x v)) u
+  merge-new-value {u} N n h = go (isWraparound x) refl
+    where
+      go : (b : Bool) → isWraparound x ≡ b → Accepts (cond (not b) (fromInterval (interval.mergeValue (x .inner) v)) (moveEnd x v)) u
+      go true w = move-end-accepts w N n h
+      go false w =
+          accepts-of-plain (plain.merge-value-doubles v D F)
+          (⊎-elim
+          (λ a. plain.merge-value-keeps v (plain-of-accepts w a))
+          (λ e. subst (λ (z : Float). interval.Accepts (interval.mergeValue (x .inner) v) z) (sym e) (plain.merge-value-accepts (x .inner) N))
+          h)
+
+  merge-value-accepts-both : {u : Float} → Accepts x u ⊎ ((u ≡ v) × Number v) → Accepts (mergeValue x v) u
+  unfolding mergeValue
+  merge-value-accepts-both {u} h = go (intersectsValue x v) (isNan v) refl refl
+    where
+      go : (a b : Bool) → intersectsValue x v ≡ a → isNan v ≡ b
+          → Accepts (cond (a || b) x (cond (not (isWraparound x)) (fromInterval (interval.mergeValue (x .inner) v)) (moveEnd x v))) u
+      go true b e g = ⊎-elim (λ a. a) (λ k. subst (λ (z : Float). Accepts x z) (sym (k .0)) (record { holds = e })) h
+      go false true e g = ⊎-elim (λ a. a) (λ k. absurd (fails (number-test (k .1)) (holds g))) h
+      go false false e g =
+          merge-new-value (number-of-test v g) (λ a. fails e (holds (a .holds))) (⊎-elim (λ a. inl a) (λ k. inr (k .0)) h)
+
+pub merge-value-keeps : {x : WraparoundInterval} {u : Float} (v : Float) → Doubles (x .inner) → T (fits binary64 v) → Accepts x u → Accepts (mergeValue x v) u
+merge-value-keeps {x} v D F h = merge-value-accepts-both {x = x} {v = v} D F (inl h)
+
+pub merge-value-accepts : {x : WraparoundInterval} {v : Float} → Doubles (x .inner) → T (fits binary64 v) → Number v → Accepts (mergeValue x v) v
+merge-value-accepts {x} {v} D F N = merge-value-accepts-both {x = x} {v = v} D F (inr (refl, N))
+
+-- ---- two that accept a common number intersect
+pieces-intersect : {i : Interval} {y : WraparoundInterval} {v : Float} → interval.Accepts i v → Accepts y v → T (piecesIntersect (split y) i)
+unfolding piecesIntersect
+pieces-intersect {i} {y} h k =
+    ⊎-elim
+    (λ a. or-left (interval.intersectsInterval i (split y .left)) (interval.intersectsInterval i (split y .right)) (holds (plain.common-intersect h a)))
+    (λ b. or-right (interval.intersectsInterval i (split y .left)) (interval.intersectsInterval i (split y .right)) (holds (plain.common-intersect h b)))
+    (accepts-cases k)
+
+pub common-intersect : {x y : WraparoundInterval} {v : Float} → Accepts x v → Accepts y v → intersectsInterval x y ≡ true
+unfolding intersectsInterval
+common-intersect {x} {y} h k =
+    is-true (intersectsInterval x y)
+    (⊎-elim
+    (λ a. or-left (piecesIntersect (split y) (split x .left)) (piecesIntersect (split y) (split x .right)) (pieces-intersect a k))
+    (λ b. or-right (piecesIntersect (split y) (split x .left)) (piecesIntersect (split y) (split x .right)) (pieces-intersect b k))
+    (accepts-cases h))
