@@ -1,11 +1,10 @@
 -- What a plain interval accepts: nothing where it is empty, and nothing is lost by merging. Assumes nothing.
-use mathlib.Core.Path.{_≡_, refl, sym, subst}
-use mathlib.Core.Bool.{Bool, true, false, _&&_}
+use mathlib.Core.Path.{_≡_}
+use mathlib.Core.Bool.{true}
 use lib.Dec.{T}
-use lib.Ieee.{Float, inf, binary64, sub, le, eq, fits}
-use lib.Ieee.Fits.{and-l, and-r, and-i, inf-fits}
-use Rattle.sedona_geometry.specs.Float.{minNum, maxNum}
-use Rattle.sedona_geometry.specs.Interval.{Doubles, Accepts, new, empty, width, intersectsValue, intersectsInterval, containsInterval, isEmpty, mergeInterval, mergeValue}
+use lib.Ieee.{Float, binary64, le, fits}
+use lib.Ieee.Fits.{and-l, and-r, and-i}
+use Rattle.sedona_geometry.specs.Interval.{Doubles, Accepts, empty, width, intersectsValue, intersectsInterval, isEmpty, mergeInterval, mergeValue}
 use Rattle.sedona_geometry.specs.declared.interval.Interval.{Interval}
 use Rattle.sedona_geometry.proofs.Order.{Number, Le, holds, is-true, le-refl, le-trans, le-number, eq-inf}
 use Rattle.sedona_geometry.proofs.MinMax.{min-le-left, min-le-right, min-fits, max-ge-left, max-ge-right, max-fits}

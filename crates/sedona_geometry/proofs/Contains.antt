@@ -1,11 +1,11 @@
 -- What an interval contains: merging keeps it where no x wraps, and an intersection keeps what both contain and accepts what both accept.
 -- Assumes nothing.
-use mathlib.Core.Path.{_≡_, refl, sym, subst}
-use mathlib.Core.Logic.{_⊎_, inl, inr, ⊎-elim, _↔_}
+use mathlib.Core.Path.{_≡_, refl}
+use mathlib.Core.Logic.{_⊎_, ⊎-elim, _↔_}
 use mathlib.Core.Bool.{Bool, true, false, not, _&&_, _||_, cond}
-use lib.Dec.{T, not-T}
-use lib.Ieee.{Float, inf, binary64, sub, lt, le, eq, isNan, fits}
-use lib.Ieee.Fits.{and-l, and-r, and-i, inf-fits}
+use lib.Dec.{not-T}
+use lib.Ieee.{Float, inf, binary64, sub, lt, le, eq, isNan}
+use lib.Ieee.Fits.{and-l, and-r, and-i}
 use Rattle.sedona_geometry.specs.Float as float
 use Rattle.sedona_geometry.specs.Interval as interval
 use Rattle.sedona_geometry.specs.Interval.{Doubles, hasNan}
@@ -13,7 +13,7 @@ use Rattle.sedona_geometry.specs.WraparoundInterval.{Accepts, fromInterv
 use Rattle.sedona_geometry.specs.declared.interval.Interval.{Interval}
 use Rattle.sedona_geometry.specs.declared.interval.WraparoundInterval.{WraparoundInterval}
 use Rattle.sedona_geometry.specs.declared.interval.Intersection.{Intersection}
-use Rattle.sedona_geometry.proofs.Order.{Number, infinite, Le, Lt, holds, fails, is-true, is-false, or-left, or-right, le-of-lt, le-of-not-lt, le-refl, le-trans, le-number, number-of-test, top-not-bottom, below-bottom, lt-not-le}
+use Rattle.sedona_geometry.proofs.Order.{Number, infinite, Le, holds, fails, is-true, is-false, or-left, or-right, le-of-not-lt, le-refl, le-trans, le-number, number-of-test, top-not-bottom, below-bottom, lt-not-le}
 use Rattle.sedona_geometry.proofs.MinMax.{min-le-left, min-le-right, min-greatest, min-fits, max-ge-left, max-ge-right, max-least, max-fits}
 use Rattle.sedona_geometry.proofs.Rounding.{sub-neg}
 use Rattle.sedona_geometry.proofs.Accepts as plain

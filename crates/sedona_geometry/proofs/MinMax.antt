@@ -1,11 +1,10 @@
 -- The smaller and the greater of two floats, where a NaN is passed over. Assumes nothing.
 use mathlib.Core.Path.{_≡_, refl, sym, subst}
-use mathlib.Core.Logic.{_⊎_, inl, inr}
 use mathlib.Core.Bool.{Bool, true, false, cond}
 use lib.Dec.{T}
 use lib.Ieee.{Float, Format, lt, isNan, fits}
 use Rattle.sedona_geometry.specs.Float.{minNum, maxNum}
-use Rattle.sedona_geometry.proofs.Order.{Number, Le, number-of-test, number-test, le-trans, le-of-lt, le-of-not-lt, le-number, fails, holds, le-refl}
+use Rattle.sedona_geometry.proofs.Order.{Number, Le, number-of-test, number-test, le-trans, le-of-lt, le-of-not-lt, le-number, fails, holds}
 
 -- r is the one of x and y that comes first in the order R, where a NaN comes last.
 data First (R : Float → Float → Type 0) (x y r : Float) : Type 0 where

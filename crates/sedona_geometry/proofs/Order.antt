@@ -7,7 +7,7 @@ use Prim.Native.Nat.{ℕ, _+_, _*_, _≤_, _<_}
 use native.Mathlib.Nat.{zero-mul, mul-le-mul-right, le-of-mul-le-mul-right, eq-or-lt-of-le}
 use native.Mathlib.Omega.{arith}
 use lib.IntN.{ℤ}
-use lib.Dec.{T, leb, eqb, ltb→lt, lt→ltb, eqb→eq, leb→le, nleb→lt, not-T, T-not}
+use lib.Dec.{T, leb, eqb, ltb→lt, lt→ltb, eqb→eq, leb→le, nleb→lt}
 use lib.Ieee.{Float, nan, inf, fin, up, down, below, level, lt, eq, le, ne, isNan}
 use lib.Ieee.Compare.{differs-from-itself}
 use lib.Ieee.Fits.{down-pos, and-l, and-r, and-i, eq→eqb}

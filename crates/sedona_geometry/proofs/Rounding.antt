@@ -1,7 +1,7 @@
 -- The rounded difference of two values that fit a format: its sign, and that it grows with the first and shrinks with the second.
 -- Assumes nothing.
 use mathlib.Core.Path.{_≡_, refl, sym, ap, ap₂, _∙_, subst}
-use mathlib.Core.Logic.{_⊎_, inl, inr}
+use mathlib.Core.Logic.{inl, inr}
 use mathlib.Core.Bool.{Bool, true, false, not, _&&_, cond}
 use Prim.Native.Nat.{ℕ, zero, suc, _+_, _-_, _*_, _%_, _^_, _≤_, _<_}
 use native.Mathlib.Nat.{add-comm, le-of-eq as ℕ-le-of-eq, le-trans as ℕ-le-trans, not-le-of-lt, zero-mul, one-mul, mul-one, mul-pos, mul-assoc, mul-comm, mul-sub, add-mul, mul-le-mul-right, le-of-mul-le-mul-right}
@@ -9,13 +9,13 @@ use native.Mathlib.Omega.{arith}
 use lib.IntN.{ℤ, pos, negsuc}
 use lib.Dec.{T, leb, ltb, eqb, leb→le, ltb→lt, nltb→le, eqb→eq}
 use lib.Pow.{pow-add, pow-pos, pow-lt}
-use lib.Ieee.{Float, nan, inf, fin, Format, binary32, binary64, prec, emax, low, up, down, odd, units, round, neg, sum, sub, lt, eq, le, fits}
+use lib.Ieee.{Float, nan, inf, fin, Format, binary32, binary64, prec, emax, low, up, down, odd, units, round, neg, sum, sub, lt, le, fits}
 use lib.Ieee.Digits.{back}
 use lib.Ieee.Fits.{down-pos, and-l, and-r, round-is}
 use lib.Ieee.Order.{round-mono, drop, kept}
 use lib.Ieee.Scale.{round-same}
 use Rattle.sedona_geometry.specs.Float as float
-use Rattle.sedona_geometry.proofs.Order.{Number, infinite, finite, Le, Lt, over, under, over-mul, under-mul, cross, le-fin→, →le-fin, ℕ-le-or-lt, le-number, lt-number, bottom, top, above-top, below-bottom, le-refl, le-trans, le-or-lt, lt-not-le, lt-le-trans, lt-of-not-le, le-of-eq, eq-of-le, nan-or-number, number-no-nan, top-not-bottom}
+use Rattle.sedona_geometry.proofs.Order.{Number, infinite, finite, Le, Lt, over, under, over-mul, under-mul, cross, le-fin→, →le-fin, ℕ-le-or-lt, le-number, lt-number, bottom, top, above-top, below-bottom, le-refl, le-trans, le-or-lt, lt-not-le, lt-le-trans, lt-of-not-le, le-of-eq, nan-or-number, number-no-nan, top-not-bottom}
 
 -- ---- the other sign turns the order around
 over-not : (s : Bool) (a : ℕ) → over (not s) a ≡ under s a
@@ -196,14 +196,23 @@ module _ (f : Format) (c : ℕ) (C : 0 < c) where
   rounded-ge : (p n : ℕ) {r : Float} → n ≤ p → Rounded f p n c r → Le float.zero r
   rounded-ge p n h R = rounded-mono 0 0 p n (omega arith) (rw (← round-zero f c C false) (at f 0 0 c false 0 refl (λ h. omega arith) (λ h. absurd h))) R
 
+  -- what is not zero is a unit or more
+  a-unit : (p n : ℕ) → c ≤ 2 ^ low f → 1 ≤ gap p n → c ≤ gap p n * 2 ^ low f
+  a-unit p n l one = ℕ-le-trans l (ℕ-le-trans (ℕ-le-of-eq (sym (one-mul (2 ^ low f)))) (mul-le-mul-right (2 ^ low f) one))
+
   rounded-lt : (p n : ℕ) {r : Float} → c ≤ 2 ^ low f → p < n → Rounded f p n c r → Lt r float.zero
   rounded-lt p n l h R = rw (R .is) (go (R .sign) (R .above))
     where
       go : (s : Bool) → (T (not s) → n ≤ p) → Lt (round f s (gap p n) c) float.zero
       go false a = absurd (not-le-of-lt h (a tt))
-      go true a =
-          let one : 1 ≤ gap p n = omega arith in
-          round-lt f c C (gap p n) (ℕ-le-trans l (ℕ-le-trans (ℕ-le-of-eq (sym (one-mul (2 ^ low f)))) (mul-le-mul-right (2 ^ low f) one)))
+      go true a = round-lt f c C (gap p n) (a-unit p n l (omega arith))
+
+  rounded-gt : (p n : ℕ) {r : Float} → c ≤ 2 ^ low f → n < p → Rounded f p n c r → Lt float.zero r
+  rounded-gt p n l h R = rw (R .is) (go (R .sign) (R .below))
+    where
+      go : (s : Bool) → (T s → p ≤ n) → Lt float.zero (round f s (gap p n) c)
+      go true b = absurd (not-le-of-lt h (b tt))
+      go false b = round-gt f c C (gap p n) (a-unit p n l (omega arith))
 
 -- ---- a finite value that fits is (p - n) / 2 ^ low: a whole number of the format's smallest values
 record Units (f : Format) (s : Bool) (m : ℕ) (e : ℤ) : Type 0 where
@@ -312,6 +321,13 @@ module _ (f : Format) (s : Bool) (m : ℕ) (e : ℤ) (t : Bool) (n : ℕ) (d : �
         | inr b ↦ rounded-lt f (2 ^ low f) (pow-pos (low f)) (U .p + W .n) (W .p + U .n) (ℕ-le-of-eq refl) b (sub-units f s m e t n d U W)
       ]
 
+  sub-fin-gt : Lt (fin t n d) (fin s m e) → Lt float.zero (sub f (fin s m e) (fin t n d))
+  sub-fin-gt h =
+      elim (ℕ-le-or-lt (U .p + W .n) (W .p + U .n)) [
+        | inl a ↦ absurd (lt-not-le h (→le-units f s m e t n d U W a))
+        | inr b ↦ rounded-gt f (2 ^ low f) (pow-pos (low f)) (U .p + W .n) (W .p + U .n) (ℕ-le-of-eq refl) b (sub-units f s m e t n d U W)
+      ]
+
   sub-fin-mono : (s' : Bool) (m' : ℕ) (e' : ℤ) (t' : Bool) (n' : ℕ) (d' : ℤ) → T (fits f (fin s' m' e')) → T (fits f (fin t' n' d'))
       → Le (fin t' n' d') (fin t n d) → Le (fin s m e) (fin s' m' e') → Le (sub f (fin s m e) (fin t n d)) (sub f (fin s' m' e') (fin t' n' d'))
   sub-fin-mono s' m' e' t' n' d' X' Y' h k =
@@ -398,7 +414,7 @@ module _ (f : Format) where
   sub-not-bottom {hi} {lo} F G h e =
       subst (λ (z : Float). Le float.zero z) e (sub-ge hi lo F G h (subst (λ (z : Float). Number z) (sym e) infinite)) .test
 
-  -- hi < lo: it is below 0, however near the two are, by gradual underflow
+  -- hi < lo: it is below 0, however near the two are, by gradual underflow; and lo < hi: above
   neg-of-lt : (hi lo : Float) → T (fits f hi) → T (fits f lo) → Lt hi lo → Lt (sub f hi lo) float.zero
   unfolding sub lt
   neg-of-lt nan lo F G h = absurd (h .test)
@@ -406,13 +422,27 @@ module _ (f : Format) where
   neg-of-lt (inf true) (inf true) F G h = absurd (h .test)
   neg-of-lt (inf true) (inf false) F G h = record { test = tt }
   neg-of-lt (inf true) (fin t n d) F G h = record { test = tt }
-  neg-of-lt (inf false) nan F G h = absurd (h .test)
-  neg-of-lt (inf false) (inf t) F G h = absurd (h .test)
-  neg-of-lt (inf false) (fin t n d) F G h = absurd (h .test)
+  neg-of-lt (inf false) lo F G h = absurd (lt-not-le h (top (lt-number h .1)))
   neg-of-lt (fin s m e) nan F G h = absurd (h .test)
   neg-of-lt (fin s m e) (inf true) F G h = absurd (h .test)
   neg-of-lt (fin s m e) (inf false) F G h = record { test = tt }
   neg-of-lt (fin s m e) (fin t n d) F G h = sub-fin-lt f s m e t n d F G h
+
+  pos-of-lt : (hi lo : Float) → T (fits f hi) → T (fits f lo) → Lt lo hi → Lt float.zero (sub f hi lo)
+  unfolding sub lt
+  pos-of-lt nan lo F G h = absurd (number-no-nan (lt-number h .1) refl)
+  pos-of-lt (inf true) lo F G h = absurd (lt-not-le h (bottom (lt-number h .0)))
+  pos-of-lt (inf false) nan F G h = absurd (h .test)
+  pos-of-lt (inf false) (inf true) F G h = record { test = tt }
+  pos-of-lt (inf false) (inf false) F G h = absurd (h .test)
+  pos-of-lt (inf false) (fin t n d) F G h = record { test = tt }
+  pos-of-lt (fin s m e) nan F G h = absurd (h .test)
+  pos-of-lt (fin s m e) (inf true) F G h = record { test = tt }
+  pos-of-lt (fin s m e) (inf false) F G h = absurd (h .test)
+  pos-of-lt (fin s m e) (fin t n d) F G h = sub-fin-gt f s m e t n d F G h
+
+  pub sub-pos : {hi lo : Float} → T (fits f hi) → T (fits f lo) → Lt lo hi → Lt float.zero (sub f hi lo)
+  sub-pos {hi} {lo} F G h = pos-of-lt hi lo F G h
 
   pub sub-neg : {hi lo : Float} → T (fits f hi) → T (fits f lo) → Lt hi lo → Lt (sub f hi lo) float.zero
   sub-neg {hi} {lo} F G h = neg-of-lt hi lo F G h

@@ -1,18 +1,18 @@
 -- The absolute value, by how a float compares with zero. Assumes nothing.
 use mathlib.Core.Path.{_≡_, refl}
-use mathlib.Core.Logic.{_⊎_, inl, inr}
-use mathlib.Core.Bool.{Bool, true, false}
+use mathlib.Core.Logic.{inl, inr}
+use mathlib.Core.Bool.{true, false}
 use Prim.Native.Nat.{ℕ, zero, suc, _*_, _^_, _<_}
 use native.Mathlib.Nat.{eq-zero-or-pos, mul-pos, pow-suc}
 use native.Mathlib.Omega.{arith}
 use lib.IntN.{ℤ, pos, negsuc}
-use lib.Dec.{T, eqb, eqb→eq}
+use lib.Dec.{T, eqb→eq}
 use lib.Pow.{pow-pos}
-use lib.Ieee.{Float, nan, inf, fin, Format, up, down, neg, lt, eq, fits}
+use lib.Ieee.{Float, nan, inf, fin, Format, up, neg, lt, eq, fits}
 use lib.Ieee.Fits.{up-pos}
 use Rattle.sedona_geometry.specs.Float as float
 use Rattle.sedona_geometry.specs.Float.{abs}
-use Rattle.sedona_geometry.proofs.Order.{Lt, lt-fin, eq-fin}
+use Rattle.sedona_geometry.proofs.Order.{lt-fin, eq-fin}
 
 pub abs-negative : (x : Float) → T (lt x float.zero) → neg x ≡ abs x
 unfolding abs neg lt

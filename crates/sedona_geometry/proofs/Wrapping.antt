@@ -1,5 +1,5 @@
 -- What an x accepts, wrapped or not: nothing where it is empty, and nothing is lost by merging. Assumes nothing.
-use mathlib.Core.Path.{_≡_, refl, sym, subst, _∙_, ap}
+use mathlib.Core.Path.{_≡_, refl, sym, subst}
 use mathlib.Core.Logic.{_⊎_, inl, inr, ⊎-elim}
 use mathlib.Core.Bool.{Bool, true, false, not, _&&_, _||_, cond}
 use lib.Dec.{T, not-T, T-not}
@@ -12,9 +12,9 @@ use Rattle.sedona_geometry.specs.WraparoundInterval.{Accepts, fromInterv
 use Rattle.sedona_geometry.specs.declared.interval.Interval.{Interval}
 use Rattle.sedona_geometry.specs.declared.interval.WraparoundInterval.{WraparoundInterval}
 use Rattle.sedona_geometry.specs.declared.interval.Pieces.{Pieces}
-use Rattle.sedona_geometry.proofs.Order.{Number, infinite, Le, Lt, holds, fails, is-true, is-false, or-left, or-right, or-cases, le-of-lt, le-refl, le-trans, le-number, lt-number, lt-of-not-le, bottom, top, eq-inf, above-top, below-bottom, top-not-bottom, number-of-test, number-test}
+use Rattle.sedona_geometry.proofs.Order.{Number, infinite, Le, Lt, holds, fails, is-true, is-false, or-left, or-right, or-cases, le-of-lt, le-refl, le-trans, le-number, lt-number, lt-of-not-le, bottom, top, eq-inf, below-bottom, top-not-bottom, number-of-test, number-test}
 use Rattle.sedona_geometry.proofs.MinMax.{min-le-left, max-ge-left}
-use Rattle.sedona_geometry.proofs.Rounding.{sub-not-neg, sub-neg, lt-of-sub-neg, sub-wider}
+use Rattle.sedona_geometry.proofs.Rounding.{sub-not-neg, sub-neg, sub-pos, lt-of-sub-neg, sub-wider}
 use Rattle.sedona_geometry.proofs.Accepts as plain
 
 -- ---- which x wrap
@@ -233,6 +233,11 @@ module _ {x : WraparoundInterval} {v : Float} (D : Doubles (x .inner)) (F : T (f
   between-ends : isWraparound x ≡ true → Number v → (Accepts x v → ⊥) → Lt (x .inner .hi) v × Lt v (x .inner .lo)
   between-ends w N n =
       (lt-of-not-le N (hi-number x D w) (λ k. n (wrapped-accepts-left w k)), lt-of-not-le (lo-number x D w) N (λ k. n (wrapped-accepts-right w k)))
+
+  -- so both distances are above 0, as the Rust's debug assertions say
+  pub distances-positive : isWraparound x ≡ true → Number v → (Accepts x v → ⊥)
+      → Lt float.zero (sub binary64 v (x .inner .hi)) × Lt float.zero (sub binary64 (x .inner .lo) v)
+  distances-positive w N n = let b = between-ends w N n in (sub-pos binary64 F (D .hi) (b .0), sub-pos binary64 (D .lo) F (b .1))
 
   -- whichever end moves
   move-end-accepts : {u : Float} → isWraparound x ≡ true → Number v → (Accepts x v → ⊥) → Accepts x u ⊎ (u ≡ v) → Accepts (moveEnd x v) u

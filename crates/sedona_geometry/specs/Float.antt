@@ -1,5 +1,5 @@
 -- What Rust's `f64` methods give, over IEEE 754. The source leaves open which of two equal zeros `min` and `max` give: here the first.
-use mathlib.Core.Bool.{Bool, false, cond}
+use mathlib.Core.Bool.{false, cond}
 use lib.IntN.{pos}
 use lib.Ieee.{Float, nan, inf, fin, lt, isNan}
 

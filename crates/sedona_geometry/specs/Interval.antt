@@ -11,10 +11,6 @@ pub record Doubles (i : Interval) : Type 0 where
   pub lo : T (fits binary64 (i .lo))
   pub hi : T (fits binary64 (i .hi))
 
--- 01's "low to high".
-abbrev pub isLowToHigh : Interval → Bool
-isLowToHigh i = le (i .lo) (i .hi)
-
 -- 01's "having NaN": at either end.
 abbrev pub hasNan : Interval → Bool
 hasNan i = isNan (i .lo) || isNan (i .hi)

@@ -1,5 +1,4 @@
 -- `float::min` meets its contract, branch by branch. Assumes nothing.
-use lib.Ieee.{Float}
 use Rattle.sedona_geometry.specs.Float.{minNum}
 use Rattle.sedona_geometry.proofs.Order.{ne-self}
 use Rattle.sedona_geometry.proofs.float.min.Statement.{statement}

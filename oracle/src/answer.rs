@@ -1,0 +1,120 @@
+//! What a call answers, as text and as the words of a digest.
+
+use crate::text;
+use oracle::interval::{Interval, IntervalTrait, WraparoundInterval};
+use std::fmt;
+
+/// An answer is a list of parts.
+pub struct Answer(Vec<Part>);
+
+enum Part {
+    Bool(bool),
+    Double(f64),
+    /// Comes first in an answer that could have been refused; has no text.
+    NotRefused,
+    /// The number of the refusal, and all of the answer.
+    Refused(u64),
+}
+
+impl Part {
+    fn text(&self) -> Option<String> {
+        match self {
+            Part::Bool(value) => Some(value.to_string()),
+            Part::Double(value) => Some(text::write(*value)),
+            Part::NotRefused => None,
+            Part::Refused(number) => Some(format!("refused {number}")),
+        }
+    }
+
+    /// A word: of a double its bits, where every NaN counts as one and so do the two zeros.
+    fn word(&self) -> u64 {
+        match self {
+            Part::Bool(value) => u64::from(*value),
+            Part::Double(value) if value.is_nan() => 0x7ff8_0000_0000_0000,
+            Part::Double(0.0) => 0,
+            Part::Double(value) => value.to_bits(),
+            Part::NotRefused => 0,
+            Part::Refused(number) => *number,
+        }
+    }
+}
+
+impl Answer {
+    /// The answer of a call that the Rust may refuse; `number` stands for its message.
+    pub fn or_refused<T: Into<Answer>, E>(result: Result<T, E>, number: u64) -> Answer {
+        match result {
+            Ok(value) => Answer::joined([Answer(vec![Part::NotRefused]), value.into()]),
+            Err(_) => Answer(vec![Part::Refused(number)]),
+        }
+    }
+
+    fn joined<const N: usize>(answers: [Answer; N]) -> Answer {
+        Answer(answers.into_iter().flat_map(|answer| answer.0).collect())
+    }
+
+    pub fn text(&self) -> String {
+        let texts: Vec<_> = self.0.iter().filter_map(Part::text).collect();
+        texts.join(" ")
+    }
+
+    pub fn words(&self) -> impl Iterator<Item = u64> {
+        self.0.iter().map(Part::word)
+    }
+}
+
+impl From<bool> for Answer {
+    fn from(value: bool) -> Self {
+        Answer(vec![Part::Bool(value)])
+    }
+}
+
+impl From<f64> for Answer {
+    fn from(value: f64) -> Self {
+        Answer(vec![Part::Double(value)])
+    }
+}
+
+impl From<Interval> for Answer {
+    fn from(value: Interval) -> Self {
+        ends(&value)
+    }
+}
+
+impl From<WraparoundInterval> for Answer {
+    fn from(value: WraparoundInterval) -> Self {
+        ends(&value)
+    }
+}
+
+fn ends(interval: &impl IntervalTrait) -> Answer {
+    Answer(vec![
+        Part::Double(interval.lo()),
+        Part::Double(interval.hi()),
+    ])
+}
+
+impl From<(Interval, Interval)> for Answer {
+    fn from((left, right): (Interval, Interval)) -> Self {
+        Answer::joined([left.into(), right.into()])
+    }
+}
+
+/// The digest of the answers of a sweep.
+#[derive(Default)]
+pub struct Digest(u64);
+
+impl Digest {
+    pub fn add(&mut self, answer: &Answer) {
+        for word in answer.words() {
+            for half in [word >> 32, word & 0xffff_ffff] {
+                self.0 = (self.0 * 1_000_003 + half) % 4_294_967_291;
+            }
+        }
+    }
+}
+
+impl fmt::Display for Digest {
+    fn fmt(&self, f: &mut fmt::Formatter<'_>) -> fmt::Result {
+        write!(f, "{:08x}", self.0)
+    }
+}

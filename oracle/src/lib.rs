@@ -1,0 +1,19 @@
+//! The lent Rust files of sedona-db, compiled unchanged, each a module of its name.
+
+pub mod shims;
+
+// The lent files of sedona-expr name these two as their neighbours.
+use shims::{metadata_preserving_column, utils};
+
+/// Declares a module for each lent file; build.rs says where a file is that it has checked.
+macro_rules! lent {
+    ($($name:ident)*) => { $(
+        #[allow(unreachable_patterns, unused_unsafe, clippy::all)]
+        pub mod $name {
+            use crate::shims::*;
+            include!(env!(concat!("LENT_", stringify!($name))));
+        }
+    )* };
+}
+
+lent!(error interval bounding_box types bounds statistics spatial_filter);

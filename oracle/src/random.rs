@@ -1,0 +1,80 @@
+//! Random cases over all calls.
+
+use crate::calls::Call;
+use crate::text::write_line;
+
+/// `count` cases, the same ones for the same seed. Doubles of note are drawn from `values`.
+pub fn cases(calls: &[Call], values: &[f64], seed: u64, count: usize) -> String {
+    let mut random = Random {
+        state: seed,
+        values,
+    };
+    let cases = (0..count).map(|_| {
+        let call = &calls[random.below(calls.len())];
+        write_line(&call.name, &random.operands(call.operands))
+    });
+    cases.collect()
+}
+
+struct Random<'a> {
+    state: u64,
+    values: &'a [f64],
+}
+
+impl Random<'_> {
+    /// The next 64 bits (splitmix64).
+    fn bits(&mut self) -> u64 {
+        self.state = self.state.wrapping_add(0x9e37_79b9_7f4a_7c15);
+        let z = self.state;
+        let z = (z ^ (z >> 30)).wrapping_mul(0xbf58_476d_1ce4_e5b9);
+        let z = (z ^ (z >> 27)).wrapping_mul(0x94d0_49bb_1331_11eb);
+        z ^ (z >> 31)
+    }
+
+    fn below(&mut self, bound: usize) -> usize {
+        (self.bits() % bound as u64) as usize
+    }
+
+    /// Operands of a call, two and two shaped as intervals.
+    fn operands(&mut self, count: usize) -> Vec<f64> {
+        let mut operands = Vec::new();
+        for _ in 0..count {
+            operands.push(self.double(&operands));
+        }
+        for ends in operands.chunks_exact_mut(2) {
+            self.shape(ends);
+        }
+        operands
+    }
+
+    /// A double: half of the time one that has to do with an earlier operand.
+    fn double(&mut self, earlier: &[f64]) -> f64 {
+        let known = if earlier.is_empty() {
+            self.values
+        } else {
+            earlier
+        };
+        let near = known[self.below(known.len())];
+        match self.below(10) {
+            0..2 => self.values[self.below(self.values.len())],
+            2..4 => self.below(41) as f64 - 20.0,
+            4 => f64::from_bits(self.bits()),
+            5 => near,
+            6 => -near,
+            7 => near.next_up(),
+            8 => near.next_down(),
+            _ => near * (1.0 + f64::powi(2.0, self.below(113) as i32 - 52)),
+        }
+    }
+
+    /// Has half of the intervals run low to high and most others fall; a few are empty or have a
+    /// NaN end.
+    fn shape(&mut self, ends: &mut [f64]) {
+        match self.below(16) {
+            0..8 => ends.sort_by(f64::total_cmp),
+            8..14 => ends.sort_by(|a, b| b.total_cmp(a)),
+            14 => ends.copy_from_slice(&[f64::INFINITY, f64::NEG_INFINITY]),
+            _ => ends[self.below(2)] = f64::NAN,
+        }
+    }
+}

@@ -1,0 +1,125 @@
+//! Doubles as the case language reads and writes them: `nan`, `inf`, `-inf`; an integer `N`, or a
+//! quotient `N/D` rounded once, with or without `-`; `x` and the 16 hex digits of the bits.
+
+/// The largest integer of a case. Up to here every integer is a double.
+const LARGEST: u64 = 1 << 53;
+
+/// The double that a word spells.
+pub fn read(word: &str) -> Option<f64> {
+    if word == "nan" {
+        Some(f64::NAN)
+    } else if let Some(digits) = word.strip_prefix('x') {
+        read_bits(digits)
+    } else if let Some(magnitude) = word.strip_prefix('-') {
+        read_magnitude(magnitude).map(|value| -value)
+    } else {
+        read_magnitude(word)
+    }
+}
+
+fn read_bits(digits: &str) -> Option<f64> {
+    let is_digit = |digit| matches!(digit, b'0'..=b'9' | b'a'..=b'f');
+    if digits.len() != 16 || !digits.bytes().all(is_digit) {
+        return None;
+    }
+    u64::from_str_radix(digits, 16).ok().map(f64::from_bits)
+}
+
+/// `inf`, `N` or `N/D`.
+fn read_magnitude(word: &str) -> Option<f64> {
+    match word.split_once('/') {
+        _ if word == "inf" => Some(f64::INFINITY),
+        None => read_integer(word),
+        Some((n, d)) => Some(read_integer(n)? / read_integer(d).filter(|&d| d != 0.0)?),
+    }
+}
+
+fn read_integer(digits: &str) -> Option<f64> {
+    if !digits.bytes().all(|digit| digit.is_ascii_digit()) {
+        return None;
+    }
+    let value: u64 = digits.parse().ok()?;
+    (value <= LARGEST).then_some(value as f64)
+}
+
+/// The word for a double in an answer: a NaN without its bits, a zero without its sign, and by its
+/// bits what is no fraction of a few digits.
+pub fn write(value: f64) -> String {
+    let scaled = value * 1024.0;
+    if value.is_nan() {
+        "nan".to_string()
+    } else if value.is_infinite() {
+        value.to_string()
+    } else if scaled.fract() == 0.0 && scaled.abs() <= LARGEST as f64 {
+        write_fraction(scaled as i64)
+    } else {
+        write_bits(value)
+    }
+}
+
+/// `n` / 1024, reduced.
+fn write_fraction(n: i64) -> String {
+    let halvings = n.trailing_zeros().min(10);
+    match (n >> halvings, 1024 >> halvings) {
+        (n, 1) => n.to_string(),
+        (n, d) => format!("{n}/{d}"),
+    }
+}
+
+fn write_bits(value: f64) -> String {
+    format!("x{:016x}", value.to_bits())
+}
+
+/// The word for a double as an operand, which reads back to the same bits.
+pub fn write_operand(value: f64) -> String {
+    let same = |word: &String| read(word).map(f64::to_bits) == Some(value.to_bits());
+    let words = [write(value), "-0".to_string()];
+    let found = words.into_iter().find(same);
+    found.unwrap_or_else(|| write_bits(value))
+}
+
+/// A line of a case file: a name and its operands.
+pub fn write_line(name: &str, operands: &[f64]) -> String {
+    let words = operands
+        .iter()
+        .map(|value| " ".to_string() + &write_operand(*value));
+    format!("{name}{}\n", words.collect::<String>())
+}
+
+#[cfg(test)]
+mod tests {
+    use super::*;
+
+    #[test]
+    fn words_that_are_written_as_they_are_read() {
+        let words = "nan inf -inf 0 7 -7 1/2 -35/2 1/1024 x3fb999999999999a x0000000000000001 \
+            8796093022208 x42a0000000000001 xffefffffffffffff";
+        for word in words.split(' ') {
+            assert_eq!(read(word).map(write).as_deref(), Some(word));
+        }
+    }
+
+    #[test]
+    fn words_that_are_written_in_another_way() {
+        let words = [("-0", "0"), ("2/4", "1/2"), ("1/10", "x3fb999999999999a")];
+        for (word, written) in words {
+            assert_eq!(read(word).map(write).as_deref(), Some(written));
+        }
+    }
+
+    #[test]
+    fn words_that_are_no_doubles() {
+        let words = "- + +1 --1 1/ /2 1/0 1/-2 1.5 1e3 -nan --inf 1/inf 9007199254740993 x1 x7FF0000000000000";
+        for word in words.split(' ').chain([""]) {
+            assert_eq!(read(word), None, "{word}");
+        }
+    }
+
+    #[test]
+    fn operands_keep_their_bits() {
+        for bits in [0, 1 << 63, 0x7ff8 << 48, 0x7ff0 << 48 | 1, 0xfff8 << 48] {
+            let word = write_operand(f64::from_bits(bits));
+            assert_eq!(read(&word).map(f64::to_bits), Some(bits));
+        }
+    }
+}
