@@ -1,0 +1,223 @@
+// The calls of the case language: their names, how many operands each takes, and what each answers.
+use crate::answer::Answer;
+use crate::answer::converted;
+use crate::answer::ends;
+use crate::answer::intersected;
+use bytes::scan::find;
+use check::same;
+use sedona_geometry::float;
+use sedona_geometry::interval::Interval;
+use sedona_geometry::interval::WraparoundInterval;
+
+// What a call is of: the part of its name up to the `::`.
+pub enum Owner {
+    Unknown,
+    Interval,
+    WraparoundInterval,
+    Float,
+}
+
+// The rest of its name.
+pub enum Name {
+    Unknown,
+    New,
+    Empty,
+    Full,
+    IsWraparound,
+    IntersectsValue,
+    IntersectsInterval,
+    ContainsInterval,
+    Width,
+    Mid,
+    IsEmpty,
+    IsFull,
+    MergeInterval,
+    MergeValue,
+    ExpandBy,
+    Intersection,
+    Split,
+    FromInterval,
+    TryIntoInterval,
+    Min,
+    Max,
+    Abs,
+    Infinity,
+}
+
+// A row of the tables below.
+pub struct Call {
+    owner: Owner,
+    name: Name,
+    // How many doubles it takes.
+    pub operands: usize,
+}
+
+// The doubles that a call takes. What stands past the last of them does not count.
+pub type Operands = [f64; 4];
+
+impl Call {
+    // The head of a table, which is no call.
+    fn unknown(owner: Owner) -> Call {
+        Call {
+            owner,
+            name: Name::Unknown,
+            operands: 0,
+        }
+    }
+
+    // A row of a table: its call where the word is its text, else what the rows above it gave.
+    fn row(self, word: &[u8], text: &[u8], name: Name, operands: usize) -> Call {
+        if same(word, text) {
+            let owner = self.owner;
+            Call {
+                owner,
+                name,
+                operands,
+            }
+        } else {
+            self
+        }
+    }
+
+    // Whether it is a row, and not the head alone.
+    pub fn is_known(self) -> bool {
+        let name = self.name;
+        match name {
+            Name::Unknown => false,
+            _ => true,
+        }
+    }
+}
+
+// The call that a word names.
+pub fn call_named(word: &[u8]) -> Call {
+    let colon = find(word, 0, word.len(), b':');
+    if word.len() - colon < 2 {
+        return Call::unknown(Owner::Unknown);
+    }
+    let owner = &word[0..colon + 2];
+    let name = &word[colon + 2..];
+    if same(owner, b"Interval::") {
+        return call_of_both(Owner::Interval, name);
+    }
+    if same(owner, b"WraparoundInterval::") {
+        return call_of_wraparound_interval(name);
+    }
+    if same(owner, b"float::") {
+        return call_of_float(name);
+    }
+    Call::unknown(Owner::Unknown)
+}
+
+// The calls of both interval types.
+fn call_of_both(owner: Owner, word: &[u8]) -> Call {
+    Call::unknown(owner)
+        .row(word, b"new", Name::New, 2)
+        .row(word, b"empty", Name::Empty, 0)
+        .row(word, b"full", Name::Full, 0)
+        .row(word, b"is_wraparound", Name::IsWraparound, 2)
+        .row(word, b"intersects_value", Name::IntersectsValue, 3)
+        .row(word, b"intersects_interval", Name::IntersectsInterval, 4)
+        .row(word, b"contains_interval", Name::ContainsInterval, 4)
+        .row(word, b"width", Name::Width, 2)
+        .row(word, b"mid", Name::Mid, 2)
+        .row(word, b"is_empty", Name::IsEmpty, 2)
+        .row(word, b"is_full", Name::IsFull, 2)
+        .row(word, b"merge_interval", Name::MergeInterval, 4)
+        .row(word, b"merge_value", Name::MergeValue, 3)
+        .row(word, b"expand_by", Name::ExpandBy, 3)
+        .row(word, b"intersection", Name::Intersection, 4)
+}
+
+// The calls of both, and those that only `WraparoundInterval` has.
+fn call_of_wraparound_interval(word: &[u8]) -> Call {
+    call_of_both(Owner::WraparoundInterval, word)
+        .row(word, b"split", Name::Split, 2)
+        .row(word, b"from_interval", Name::FromInterval, 2)
+        .row(word, b"try_into_interval", Name::TryIntoInterval, 2)
+}
+
+// The calls of float.rt.
+fn call_of_float(word: &[u8]) -> Call {
+    Call::unknown(Owner::Float)
+        .row(word, b"min", Name::Min, 2)
+        .row(word, b"max", Name::Max, 2)
+        .row(word, b"abs", Name::Abs, 1)
+        .row(word, b"infinity", Name::Infinity, 0)
+}
+
+// Makes a call.
+pub fn make(call: Call, v: Operands) -> Answer {
+    let owner = call.owner;
+    let name = call.name;
+    match owner {
+        Owner::Unknown => Answer::Unknown,
+        Owner::Interval => make_of_interval(name, v),
+        Owner::WraparoundInterval => make_of_wraparound_interval(name, v),
+        Owner::Float => make_of_float(name, v),
+    }
+}
+
+// The operands: `LO HI`, then a value or the other's `LO HI`.
+fn make_of_interval(name: Name, v: Operands) -> Answer {
+    let i = Interval::new(v[0], v[1]);
+    let value = v[2];
+    let other = Interval::new(v[2], v[3]);
+    match name {
+        Name::New => Answer::Ends(i),
+        Name::Empty => Answer::Ends(Interval::empty()),
+        Name::Full => Answer::Ends(Interval::full()),
+        Name::IsWraparound => Answer::Bool(i.is_wraparound()),
+        Name::IntersectsValue => Answer::Bool(i.intersects_value(value)),
+        Name::IntersectsInterval => Answer::Bool(i.intersects_interval(other)),
+        Name::ContainsInterval => Answer::Bool(i.contains_interval(other)),
+        Name::Width => Answer::Double(i.width()),
+        Name::Mid => Answer::Double(i.mid()),
+        Name::IsEmpty => Answer::Bool(i.is_empty()),
+        Name::IsFull => Answer::Bool(i.is_full()),
+        Name::MergeInterval => Answer::Ends(i.merge_interval(other)),
+        Name::MergeValue => Answer::Ends(i.merge_value(value)),
+        Name::ExpandBy => Answer::Ends(i.expand_by(value)),
+        Name::Intersection => Answer::Ends(i.intersection(other)),
+        _ => Answer::Unknown,
+    }
+}
+
+// The operands are as for `Interval`.
+fn make_of_wraparound_interval(name: Name, v: Operands) -> Answer {
+    let x = WraparoundInterval::new(v[0], v[1]);
+    let value = v[2];
+    let other = WraparoundInterval::new(v[2], v[3]);
+    match name {
+        Name::New => ends(x),
+        Name::Empty => ends(WraparoundInterval::empty()),
+        Name::Full => ends(WraparoundInterval::full()),
+        Name::IsWraparound => Answer::Bool(x.is_wraparound()),
+        Name::IntersectsValue => Answer::Bool(x.intersects_value(value)),
+        Name::IntersectsInterval => Answer::Bool(x.intersects_interval(other)),
+        Name::ContainsInterval => Answer::Bool(x.contains_interval(other)),
+        Name::Width => Answer::Double(x.width()),
+        Name::Mid => Answer::Double(x.mid()),
+        Name::IsEmpty => Answer::Bool(x.is_empty()),
+        Name::IsFull => Answer::Bool(x.is_full()),
+        Name::MergeInterval => ends(x.merge_interval(other)),
+        Name::MergeValue => ends(x.merge_value(value)),
+        Name::ExpandBy => ends(x.expand_by(value)),
+        Name::Intersection => intersected(x.intersection(other)),
+        Name::Split => Answer::Split(x.split()),
+        Name::FromInterval => ends(WraparoundInterval::from_interval(Interval::new(v[0], v[1]))),
+        Name::TryIntoInterval => converted(x.try_into_interval()),
+        _ => Answer::Unknown,
+    }
+}
+
+// The operands are one number or two.
+fn make_of_float(name: Name, v: Operands) -> Answer {
+    match name {
+        Name::Min => Answer::Double(float::min(v[0], v[1])),
+        Name::Max => Answer::Double(float::max(v[0], v[1])),
+        Name::Abs => Answer::Double(float::abs(v[0])),
+        Name::Infinity => Answer::Double(float::infinity()),
+        _ => Answer::Unknown,
+    }
+}

@@ -1,0 +1,108 @@
+// Reads cases from standard input and writes them, with their answers, to standard output. Each
+// byte is copied as it is read; before the end of a line comes the reply to it.
+mod answer;
+mod calls;
+mod line;
+mod output;
+mod read;
+mod sweep;
+mod write;
+
+use libc::STDIN_FILENO;
+use line::Line;
+use line::SIZE;
+use line::outcome_of;
+use line::push;
+use line::put_reply;
+use output::Buffer;
+use output::flush;
+use output::put;
+use read::Doubles;
+
+// What is kept from one byte of the input to the next.
+struct State {
+    // What sweeps go over.
+    values: Doubles,
+    // How long the line is so far.
+    length: usize,
+    // How much of the output buffer is filled.
+    filled: usize,
+    // Whether the input has ended.
+    is_over: bool,
+}
+
+impl State {
+    // Before the first byte.
+    fn new() -> State {
+        State {
+            values: Doubles::none(),
+            length: 0,
+            filled: 0,
+            is_over: false,
+        }
+    }
+}
+
+// Has the buffers that the rest borrows.
+fn main() {
+    let mut line = [0u8; SIZE];
+    let mut out = io::large_buffer();
+    run(&mut line, &mut out);
+}
+
+// Takes the whole input. Nothing says that it ends, and a proved loop has to: so the loop counts
+// its turns down, from a number that no run uses up.
+fn run(line: &mut Line, out: &mut Buffer) {
+    let mut state = State::new();
+    let mut turns = u64::MAX;
+    while turns > 0 && !state.is_over {
+        state = take_chunk(state, line, out);
+        turns -= 1;
+    }
+    if state.length > 0 {
+        state = end_line(state, line, out);
+    }
+    flush(out, state.filled);
+}
+
+// Reads once, and takes what came.
+fn take_chunk(before: State, line: &mut Line, out: &mut Buffer) -> State {
+    let mut chunk = io::large_buffer();
+    let got = libc::read(STDIN_FILENO, &mut chunk);
+    let count = io::count(got, &chunk);
+    if count == 0 {
+        let mut state = before;
+        state.is_over = true;
+        return state;
+    }
+    take_bytes(&chunk[..count], before, line, out)
+}
+
+// Copies the bytes, and replies to each line that they end.
+fn take_bytes(bytes: &[u8], before: State, line: &mut Line, out: &mut Buffer) -> State {
+    let mut state = before;
+    for i in 0..bytes.len() {
+        let byte = bytes[i];
+        if byte == b'\n' {
+            state = end_line(state, line, out);
+        } else {
+            state.length = push(line, state.length, byte);
+            state.filled = put(out, state.filled, byte);
+        }
+    }
+    state
+}
+
+// Puts the reply to a line, and the line's end.
+fn end_line(before: State, line: &Line, out: &mut Buffer) -> State {
+    let outcome = outcome_of(line, before.length, before.values);
+    let reply = outcome.reply;
+    let values = outcome.values;
+    let at = put_reply(out, before.filled, reply);
+    State {
+        values,
+        length: 0,
+        filled: put(out, at, b'\n'),
+        is_over: before.is_over,
+    }
+}

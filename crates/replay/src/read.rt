@@ -1,0 +1,188 @@
+// The words of a line, read as doubles: `nan`, `inf`, an integer `N` or a quotient `N/D`, the last
+// three with or without `-`; or `x` and the 16 hex digits of the bits.
+ghost use Prim.Native.Nat.{_≤_};
+use bytes::scan::find;
+use check::same;
+
+// The largest integer of a case. Up to here every integer is a double.
+pub const LARGEST: u64 = 9007199254740992;
+
+// The most doubles that a line can have.
+pub const MOST_DOUBLES: usize = 32;
+
+// A list of doubles. It is bad where a word was no double, or there was one too many.
+pub struct Doubles {
+    pub list: [f64; MOST_DOUBLES],
+    pub count: usize,
+    pub is_good: bool,
+}
+
+// What a word spells.
+enum Reading {
+    Double(f64),
+    Bad,
+}
+
+// What digits spell.
+enum Number {
+    Whole(u64),
+    Bad,
+}
+
+impl Doubles {
+    // An empty list, which is good.
+    pub fn none() -> Doubles {
+        Doubles {
+            list: [0.0; MOST_DOUBLES],
+            count: 0,
+            is_good: true,
+        }
+    }
+
+    // The list with a word more.
+    fn with(self, word: Reading) -> Doubles {
+        let at = self.count;
+        let mut doubles = self;
+        if let Reading::Double(x) = word {
+            if at < MOST_DOUBLES {
+                doubles.list[at] = x;
+                doubles.count = at + 1;
+                return doubles;
+            }
+        }
+        doubles.is_good = false;
+        doubles
+    }
+}
+
+// The doubles that the words of a line spell, from the end of an earlier word on.
+pub fn read_doubles(line: &[u8], end_of_word: usize) -> Doubles {
+    let mut doubles = Doubles::none();
+    let mut at = end_of_word;
+    while at < line.len() {
+        let end = find(line, at + 1, line.len(), b' ');
+        doubles = doubles.with(read_double(&line[at + 1..end]));
+        at = end;
+    }
+    doubles
+}
+
+// The double that a word spells.
+fn read_double(word: &[u8]) -> Reading {
+    if word.len() == 0 {
+        return Reading::Bad;
+    }
+    if same(word, b"nan") {
+        return Reading::Double(nan());
+    }
+    if word[0] == b'x' {
+        return read_bits(&word[1..]);
+    }
+    if word[0] == b'-' {
+        return negated(read_magnitude(&word[1..]));
+    }
+    read_magnitude(word)
+}
+
+// A NaN: no constant can hold it.
+fn nan() -> f64 {
+    0.0 / 0.0
+}
+
+// The same with the other sign.
+fn negated(word: Reading) -> Reading {
+    match word {
+        Reading::Double(x) => Reading::Double(-x),
+        Reading::Bad => Reading::Bad,
+    }
+}
+
+// `inf`, `N` or `N/D`.
+fn read_magnitude(word: &[u8]) -> Reading {
+    if same(word, b"inf") {
+        return Reading::Double(1.0 / 0.0);
+    }
+    let slash = find(word, 0, word.len(), b'/');
+    if slash == word.len() {
+        return read_integer(word);
+    }
+    quotient(
+        read_integer(&word[0..slash]),
+        read_integer(&word[slash + 1..]),
+    )
+}
+
+// One division, rounded once. Nothing is divided by 0.
+fn quotient(dividend: Reading, divisor: Reading) -> Reading {
+    let Reading::Double(n) = dividend else {
+        return Reading::Bad;
+    };
+    let Reading::Double(d) = divisor else {
+        return Reading::Bad;
+    };
+    if d == 0.0 {
+        return Reading::Bad;
+    }
+    Reading::Double(n / d)
+}
+
+// An integer `N`.
+fn read_integer(digits: &[u8]) -> Reading {
+    let Number::Whole(n) = read_digits(digits, 10) else {
+        return Reading::Bad;
+    };
+    if n > LARGEST {
+        return Reading::Bad;
+    }
+    Reading::Double(std::num::nearest_u64_to_f64(n))
+}
+
+// The digits behind an `x`.
+fn read_bits(digits: &[u8]) -> Reading {
+    if digits.len() != 16 {
+        return Reading::Bad;
+    }
+    let Number::Whole(bits) = read_digits(digits, 16) else {
+        return Reading::Bad;
+    };
+    Reading::Double(from_bits(bits))
+}
+
+// The double with these bits. Those of a NaN are not kept.
+fn from_bits(bits: u64) -> f64 {
+    if bits % 0x8000_0000_0000_0000 > 0x7ff0_0000_0000_0000 {
+        nan()
+    } else {
+        f64::from_bits(bits)
+    }
+}
+
+// The number that one or more digits of a base spell. It is bad where it might not fit.
+fn read_digits(digits: &[u8], base: u64) -> Number
+    requires { ⌜ base ≤ 16 ⌝ }
+{
+    if digits.len() == 0 {
+        return Number::Bad;
+    }
+    let mut n: u64 = 0;
+    for i in 0..digits.len() {
+        let digit = digit_value(digits[i]);
+        if digit >= base {
+            return Number::Bad;
+        }
+        if n >= 0x1000_0000_0000_0000 {
+            return Number::Bad;
+        }
+        n = n * base + digit;
+    }
+    Number::Whole(n)
+}
+
+// What a decimal or hex digit stands for; 16 for any other byte.
+fn digit_value(byte: u8) -> u64 {
+    match byte {
+        b'0'..=b'9' => (byte - b'0') as u64,
+        b'a'..=b'f' => (byte - b'a') as u64 + 10,
+        _ => 16,
+    }
+}
