@@ -1,7 +1,10 @@
 //! What a call answers, as text and as the words of a digest.
 
+use crate::operands::MISSING;
 use crate::text;
+use oracle::bounding_box::BoundingBox;
 use oracle::interval::{Interval, IntervalTrait, WraparoundInterval};
+use oracle::types::GeometryTypeAndDimensionsSet;
 use std::fmt;
 
 /// An answer is a list of parts.
@@ -10,6 +13,12 @@ pub struct Answer(Vec<Part>);
 enum Part {
     Bool(bool),
     Double(f64),
+    /// A count, or a type set by its bits.
+    Integer(u64),
+    /// All of a missing z or m.
+    Missing,
+    /// Comes first in a z or m that is known; has no text.
+    Known,
     /// Comes first in an answer that could have been refused; has no text.
     NotRefused,
     /// The number of the refusal, and all of the answer.
@@ -21,7 +30,9 @@ impl Part {
         match self {
             Part::Bool(value) => Some(value.to_string()),
             Part::Double(value) => Some(text::write(*value)),
-            Part::NotRefused => None,
+            Part::Integer(value) => Some(value.to_string()),
+            Part::Missing => Some(format!("{MISSING} {MISSING}")),
+            Part::Known | Part::NotRefused => None,
             Part::Refused(number) => Some(format!("refused {number}")),
         }
     }
@@ -33,7 +44,9 @@ impl Part {
             Part::Double(value) if value.is_nan() => 0x7ff8_0000_0000_0000,
             Part::Double(0.0) => 0,
             Part::Double(value) => value.to_bits(),
-            Part::NotRefused => 0,
+            Part::Integer(value) => *value,
+            Part::Missing | Part::NotRefused => 0,
+            Part::Known => 1,
             Part::Refused(number) => *number,
         }
     }
@@ -96,6 +109,38 @@ fn ends(interval: &impl IntervalTrait) -> Answer {
 impl From<(Interval, Interval)> for Answer {
     fn from((left, right): (Interval, Interval)) -> Self {
         Answer::joined([left.into(), right.into()])
+    }
+}
+
+impl From<BoundingBox> for Answer {
+    fn from(value: BoundingBox) -> Self {
+        let (x, y) = (ends(value.x()), ends(value.y()));
+        Answer::joined([x, y, dimension(value.z()), dimension(value.m())])
+    }
+}
+
+fn dimension(dimension: &Option<Interval>) -> Answer {
+    match dimension {
+        Some(interval) => Answer::joined([Answer(vec![Part::Known]), ends(interval)]),
+        None => Answer(vec![Part::Missing]),
+    }
+}
+
+impl From<u32> for Answer {
+    fn from(value: u32) -> Self {
+        Answer(vec![Part::Integer(value.into())])
+    }
+}
+
+impl From<usize> for Answer {
+    fn from(value: usize) -> Self {
+        Answer(vec![Part::Integer(value as u64)])
+    }
+}
+
+impl From<GeometryTypeAndDimensionsSet> for Answer {
+    fn from(value: GeometryTypeAndDimensionsSet) -> Self {
+        value.bits().into()
     }
 }
 

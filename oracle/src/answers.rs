@@ -1,17 +1,15 @@
 //! Answers a case file line by line. `CALL V V ..` is one case, `sweep CALL` makes the call with
-//! every tuple of the doubles in the last line `values V V ..`. Comments and empty lines are copied.
+//! every tuple of operands from the last lines `values V V ..`, `intervals LO HI ..` and
+//! `sets S S ..`. Comments and empty lines are copied.
 
 use crate::calls::Call;
-use crate::text;
-
-/// How many values a sweep may go over.
-const MOST_VALUES: usize = 32;
+use crate::operands::Lists;
 
 /// The case file with the answers behind its lines.
 pub fn answers(calls: &[Call], cases: &str) -> String {
     let mut reader = Reader {
         calls,
-        values: Vec::new(),
+        lists: Lists::default(),
     };
     let answered = cases
         .split_terminator('\n')
@@ -32,8 +30,7 @@ enum Line {
 
 struct Reader<'a> {
     calls: &'a [Call],
-    /// What sweeps go over.
-    values: Vec<f64>,
+    lists: Lists,
 }
 
 impl Reader<'_> {
@@ -43,7 +40,9 @@ impl Reader<'_> {
         }
         let words: Vec<&str> = line.split(' ').collect();
         let answer = match words[..] {
-            ["values", ref values @ ..] => return self.set_values(values),
+            ["values", ref words @ ..] => return copied(self.lists.set_values(words)),
+            ["intervals", ref words @ ..] => return copied(self.lists.set_intervals(words)),
+            ["sets", ref words @ ..] => return copied(self.lists.set_sets(words)),
             ["sweep", name] => self.sweep(name),
             [name, ref operands @ ..] => self.single(name, operands),
             [] => None,
@@ -51,23 +50,13 @@ impl Reader<'_> {
         answer.map_or(Line::Unknown, Line::Answered)
     }
 
-    fn set_values(&mut self, words: &[&str]) -> Line {
-        match doubles(words) {
-            Some(values) if values.len() <= MOST_VALUES => {
-                self.values = values;
-                Line::Copied
-            }
-            _ => Line::Unknown,
-        }
-    }
-
     fn sweep(&self, name: &str) -> Option<String> {
-        let (count, digest) = self.call(name)?.sweep(&self.values);
+        let (count, digest) = self.call(name)?.sweep(&self.lists);
         Some(format!("{count} {digest}"))
     }
 
     fn single(&self, name: &str, operands: &[&str]) -> Option<String> {
-        let answer = self.call(name)?.answer(&doubles(operands)?)?;
+        let answer = self.call(name)?.answer(operands)?;
         Some(answer.text())
     }
 
@@ -76,6 +65,7 @@ impl Reader<'_> {
     }
 }
 
-fn doubles(words: &[&str]) -> Option<Vec<f64>> {
-    words.iter().map(|word| text::read(word)).collect()
+/// A line with a list that was taken, or was none.
+fn copied(taken: Option<()>) -> Line {
+    taken.map_or(Line::Unknown, |()| Line::Copied)
 }

@@ -1,7 +1,10 @@
 //! The table of calls: the names of the case language, and the lent Rust that answers them.
 
 use crate::answer::{Answer, Digest};
+use crate::operands::{Kind, Lists, Operand, Operands, read};
+use oracle::bounding_box::BoundingBox;
 use oracle::interval::{Interval, IntervalTrait, WraparoundInterval};
+use oracle::types::GeometryTypeAndDimensionsSet as Set;
 
 /// The number where the intersection of two x has two parts.
 const TWO_PARTS: u64 = 1;
@@ -11,49 +14,57 @@ const WRAPPED: u64 = 2;
 
 pub struct Call {
     pub name: String,
-    /// How many doubles it takes.
-    pub operands: usize,
+    /// What it takes.
+    pub operands: Vec<Kind>,
     run: Run,
 }
 
-type Run = Box<dyn Fn(&[f64]) -> Answer>;
+type Run = Box<dyn Fn(&[&Operand]) -> Answer>;
 
 impl Call {
     /// The call that a case names `of::name`.
-    fn new<const N: usize, T: Into<Answer>>(
+    fn new<O: Operands, T: Into<Answer>>(
         of: &str,
         name: &str,
-        call: impl Fn([f64; N]) -> T + 'static,
+        call: impl Fn(O) -> T + 'static,
     ) -> Call {
-        let run = move |operands: &[f64]| call(operands.try_into().expect("N operands")).into();
         Call {
             name: format!("{of}::{name}"),
-            operands: N,
-            run: Box::new(run),
+            operands: O::kinds(),
+            run: Box::new(move |operands| call(O::take(operands)).into()),
         }
     }
 
-    /// The answer to one case; none where the operands are too few or too many.
-    pub fn answer(&self, operands: &[f64]) -> Option<Answer> {
-        (operands.len() == self.operands).then(|| (self.run)(operands))
+    /// The answer to one case; none where the words do not spell what the call takes.
+    pub fn answer(&self, words: &[&str]) -> Option<Answer> {
+        let operands = read(&self.operands, words)?;
+        Some((self.run)(&operands.iter().collect::<Vec<_>>()))
     }
 
-    /// Makes the call with every tuple of the values, the first operand slowest; gives the number
-    /// of calls and the digest of their answers.
-    pub fn sweep(&self, values: &[f64]) -> (usize, Digest) {
-        let count = values.len().pow(self.operands as u32);
-        let mut operands = vec![0.0; self.operands];
+    /// Makes the call with every tuple of operands from the lists, the first operand slowest;
+    /// gives the number of calls and the digest of their answers.
+    pub fn sweep(&self, lists: &Lists) -> (usize, Digest) {
+        let kinds = self.operands.iter();
+        let choices: Vec<_> = kinds.map(|kind| lists.operands(*kind)).collect();
+        let count = choices.iter().map(Vec::len).product();
         let mut digest = Digest::default();
-        for tuple in 0..count {
-            let mut rest = tuple;
-            for operand in operands.iter_mut().rev() {
-                *operand = values[rest % values.len()];
-                rest /= values.len();
-            }
-            digest.add(&(self.run)(&operands));
+        for number in 0..count {
+            digest.add(&(self.run)(&tuple(&choices, number)));
         }
         (count, digest)
     }
+}
+
+/// The operands whose places among the choices are the digits of a number.
+fn tuple(choices: &[Vec<Operand>], number: usize) -> Vec<&Operand> {
+    let mut rest = number;
+    let mut operands = Vec::new();
+    for choices in choices.iter().rev() {
+        operands.push(&choices[rest % choices.len()]);
+        rest /= choices.len();
+    }
+    operands.reverse();
+    operands
 }
 
 /// All calls.
@@ -63,15 +74,17 @@ pub fn table() -> Vec<Call> {
     calls.extend(calls_of_both::<WraparoundInterval>("WraparoundInterval"));
     calls.extend(calls_of_wraparound_interval());
     calls.extend(calls_of_float());
+    calls.extend(calls_of_bounding_box());
+    calls.extend(calls_of_set());
     calls
 }
 
 /// The calls that are the same for both types.
 fn calls_of_both<I: IntervalTrait + Into<Answer> + 'static>(of: &str) -> Vec<Call> {
     vec![
-        Call::new(of, "new", |[lo, hi]| I::new(lo, hi)),
-        Call::new(of, "empty", |[]| I::empty()),
-        Call::new(of, "full", |[]| I::full()),
+        Call::new(of, "new", |[lo, hi]: [f64; 2]| I::new(lo, hi)),
+        Call::new(of, "empty", |[]: [f64; 0]| I::empty()),
+        Call::new(of, "full", |[]: [f64; 0]| I::full()),
         alone(of, "is_wraparound", I::is_wraparound),
         with_value(of, "intersects_value", I::intersects_value),
         with_interval(of, "intersects_interval", I::intersects_interval),
@@ -124,10 +137,51 @@ fn calls_of_wraparound_interval() -> Vec<Call> {
 fn calls_of_float() -> Vec<Call> {
     let of = "float";
     vec![
-        Call::new(of, "min", |[a, b]| f64::min(a, b)),
-        Call::new(of, "max", |[a, b]| f64::max(a, b)),
-        Call::new(of, "abs", |[a]| f64::abs(a)),
-        Call::new(of, "infinity", |[]| f64::INFINITY),
+        Call::new(of, "min", |[a, b]: [f64; 2]| f64::min(a, b)),
+        Call::new(of, "max", |[a, b]: [f64; 2]| f64::max(a, b)),
+        Call::new(of, "abs", |[a]: [f64; 1]| f64::abs(a)),
+        Call::new(of, "infinity", |[]: [f64; 0]| f64::INFINITY),
+    ]
+}
+
+fn calls_of_bounding_box() -> Vec<Call> {
+    let of = "BoundingBox";
+    vec![
+        Call::new(of, "xy", |[x_lo, x_hi, y_lo, y_hi]: [f64; 4]| {
+            BoundingBox::xy((x_lo, x_hi), (y_lo, y_hi))
+        }),
+        Call::new(of, "xyzm", |[b]: [BoundingBox; 1]| b),
+        Call::new(of, "empty", |[]: [f64; 0]| BoundingBox::empty()),
+        Call::new(of, "is_empty", |[b]: [BoundingBox; 1]| b.is_empty()),
+        with_box(of, "intersects", BoundingBox::intersects),
+        with_box(of, "contains", BoundingBox::contains),
+        Call::new(of, "expand_by", |(b, distance): (BoundingBox, f64)| {
+            b.expand_by(distance)
+        }),
+        with_box(of, "merge_box", updated),
+        with_box(of, "update_box", updated),
+        with_box(of, "intersection", |b, other| {
+            Answer::or_refused(b.intersection(other), TWO_PARTS)
+        }),
+    ]
+}
+
+fn calls_of_set() -> Vec<Call> {
+    let of = "GeometryTypeAndDimensionsSet";
+    vec![
+        Call::new(of, "new", |[]: [f64; 0]| Set::new()),
+        Call::new(of, "from_bits", |[set]: [Set; 1]| set),
+        Call::new(of, "bits", |[set]: [Set; 1]| set.bits()),
+        Call::new(of, "merge", |[mut set, other]: [Set; 2]| {
+            set.merge(&other);
+            set
+        }),
+        Call::new(of, "is_empty", |[set]: [Set; 1]| set.is_empty()),
+        Call::new(of, "size", |[set]: [Set; 1]| set.size()),
+        Call::new(of, "clear", |[mut set]: [Set; 1]| {
+            set.clear();
+            set
+        }),
     ]
 }
 
@@ -137,7 +191,7 @@ fn alone<I: IntervalTrait, T: Into<Answer>>(
     name: &str,
     call: impl Fn(&I) -> T + 'static,
 ) -> Call {
-    Call::new(of, name, move |[lo, hi]| call(&I::new(lo, hi)))
+    Call::new(of, name, move |[lo, hi]: [f64; 2]| call(&I::new(lo, hi)))
 }
 
 /// A call of an interval with a double.
@@ -146,7 +200,7 @@ fn with_value<I: IntervalTrait, T: Into<Answer>>(
     name: &str,
     call: impl Fn(&I, f64) -> T + 'static,
 ) -> Call {
-    Call::new(of, name, move |[lo, hi, value]| {
+    Call::new(of, name, move |[lo, hi, value]: [f64; 3]| {
         call(&I::new(lo, hi), value)
     })
 }
@@ -157,7 +211,7 @@ fn with_interval<I: IntervalTrait, T: Into<Answer>>(
     name: &str,
     call: impl Fn(&I, &I) -> T + 'static,
 ) -> Call {
-    Call::new(of, name, move |[lo, hi, other_lo, other_hi]| {
+    Call::new(of, name, move |[lo, hi, other_lo, other_hi]: [f64; 4]| {
         call(&I::new(lo, hi), &I::new(other_lo, other_hi))
     })
 }
@@ -167,4 +221,22 @@ fn same(one: Interval, other: Interval) -> Answer {
     let (one, other) = (Answer::from(one), Answer::from(other));
     assert!(one.words().eq(other.words()), "update and merge differ");
     other
+}
+
+/// A call of a box with another.
+fn with_box<T: Into<Answer>>(
+    of: &str,
+    name: &str,
+    call: impl Fn(&BoundingBox, &BoundingBox) -> T + 'static,
+) -> Call {
+    Call::new(of, name, move |[b, other]: [BoundingBox; 2]| {
+        call(&b, &other)
+    })
+}
+
+/// A box after it is lent to `update_box`.
+fn updated(b: &BoundingBox, other: &BoundingBox) -> BoundingBox {
+    let mut updated = b.clone();
+    updated.update_box(other);
+    updated
 }

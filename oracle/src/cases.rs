@@ -1,18 +1,34 @@
 //! Writes the case file of the replay program.
 
 use crate::calls::Call;
-use crate::text::{write_line, write_operand};
+use crate::text::{write_line, write_operand, write_operands};
 
 const TINY: f64 = f64::from_bits(1);
 const BELOW_1: f64 = 1.0_f64.next_down();
 const ABOVE_1: f64 = 1.0_f64.next_up();
 
-/// What the sweeps go over.
+/// The doubles that sweeps go over.
 #[rustfmt::skip]
 pub const VALUES: [f64; 28] = [
     0.0, -0.0, 1.0, -1.0, 0.1, 2.0, 5.0, 10.0, 20.0, 90.0, -90.0, 100.0, -100.0,
     170.0, -170.0, 180.0, -180.0, BELOW_1, ABOVE_1, TINY, f64::MIN_POSITIVE,
     1e308, -1e308, f64::MAX, f64::MIN, f64::INFINITY, f64::NEG_INFINITY, f64::NAN,
+];
+
+/// The intervals that sweeps make boxes of: plain, empty, one that wraps as an x, full, a NaN end.
+const INTERVALS: [[f64; 2]; 5] = [
+    [0.0, 10.0],
+    [f64::INFINITY, f64::NEG_INFINITY],
+    [20.0, 5.0],
+    [f64::NEG_INFINITY, f64::INFINITY],
+    [5.0, f64::NAN],
+];
+
+/// The type sets that sweeps go over.
+#[rustfmt::skip]
+const SETS: [u32; 22] = [
+    0, 1, 2, 3, 4, 64, 127, 128, 255, 256, 0x8000, 0xff00, 0xffff, 0x1_0000, 0xff_0000,
+    0x100_0000, 0x8000_0000, 0xff00_0000, 0x5555_5555, 0xaaaa_aaaa, u32::MAX - 1, u32::MAX,
 ];
 
 /// The names that singles.txt has for doubles.
@@ -28,7 +44,7 @@ const NAMED: [(&str, f64); 7] = [
 
 const HEADER: &str = "\
 # The cases of the replay program, as `oracle cases` writes them.
-# First each call with every tuple of the values, then single cases.
+# First each call with every tuple of operands from the three lists, then single cases.
 ";
 
 /// The case file: a sweep of every call, then the cases of singles.txt.
@@ -37,11 +53,17 @@ pub fn cases(calls: &[Call]) -> String {
         .iter()
         .map(|call| format!("sweep {}\n", call.name))
         .collect();
-    [HEADER, &values_line(), &sweeps, &singles()].concat()
+    [HEADER, &list_lines(), &sweeps, &singles()].concat()
 }
 
-pub fn values_line() -> String {
-    write_line("values", &VALUES)
+/// The lines that set what sweeps go over.
+pub fn list_lines() -> String {
+    [
+        write_line("values", &write_operands(&VALUES)),
+        write_line("intervals", &write_operands(INTERVALS.as_flattened())),
+        write_line("sets", &SETS.map(|bits| bits.to_string())),
+    ]
+    .concat()
 }
 
 fn singles() -> String {

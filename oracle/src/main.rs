@@ -4,6 +4,7 @@ mod answer;
 mod answers;
 mod calls;
 mod cases;
+mod operands;
 mod random;
 mod text;
 
@@ -37,7 +38,7 @@ fn run(words: &[&str]) -> Option<String> {
         }
         ["random", seed, count] => {
             let (seed, count) = (seed.parse().ok()?, count.parse().ok()?);
-            Some(cases::values_line() + &random::cases(&calls, &cases::VALUES, seed, count))
+            Some(cases::list_lines() + &random::cases(&calls, &cases::VALUES, seed, count))
         }
         _ => None,
     }

@@ -1,7 +1,8 @@
 //! Random cases over all calls.
 
 use crate::calls::Call;
-use crate::text::write_line;
+use crate::operands::{Kind, MISSING};
+use crate::text::{write_line, write_operands};
 
 /// `count` cases, the same ones for the same seed. Doubles of note are drawn from `values`.
 pub fn cases(calls: &[Call], values: &[f64], seed: u64, count: usize) -> String {
@@ -11,7 +12,7 @@ pub fn cases(calls: &[Call], values: &[f64], seed: u64, count: usize) -> String 
     };
     let cases = (0..count).map(|_| {
         let call = &calls[random.below(calls.len())];
-        write_line(&call.name, &random.operands(call.operands))
+        write_line(&call.name, &random.words(&call.operands))
     });
     cases.collect()
 }
@@ -35,16 +36,40 @@ impl Random<'_> {
         (self.bits() % bound as u64) as usize
     }
 
-    /// Operands of a call, two and two shaped as intervals.
-    fn operands(&mut self, count: usize) -> Vec<f64> {
-        let mut operands = Vec::new();
-        for _ in 0..count {
-            operands.push(self.double(&operands));
+    /// The words of operands of these kinds.
+    fn words(&mut self, kinds: &[Kind]) -> Vec<String> {
+        let count = kinds.iter().map(|kind| kind.width()).sum();
+        let mut words = write_operands(&self.doubles(count));
+        let mut rest = &mut words[..];
+        for kind in kinds {
+            let (own, others) = rest.split_at_mut(kind.width());
+            match kind {
+                Kind::Double => {}
+                Kind::Box => own[4..].chunks_exact_mut(2).for_each(|z| self.lose(z)),
+                Kind::Set => own[0] = self.set().to_string(),
+            }
+            rest = others;
         }
-        for ends in operands.chunks_exact_mut(2) {
+        words
+    }
+
+    /// Doubles, two and two shaped as intervals. Of a second box half of the intervals are those
+    /// of the first.
+    fn doubles(&mut self, count: usize) -> Vec<f64> {
+        let mut doubles = Vec::new();
+        for _ in 0..count {
+            doubles.push(self.double(&doubles));
+        }
+        for ends in doubles.chunks_exact_mut(2) {
             self.shape(ends);
         }
-        operands
+        for at in (Kind::Box.width()..count - count % 2).step_by(2) {
+            if self.below(2) == 0 {
+                let first = at - Kind::Box.width();
+                doubles.copy_within(first..first + 2, at);
+            }
+        }
+        doubles
     }
 
     /// A double: half of the time one that has to do with an earlier operand.
@@ -75,6 +100,24 @@ impl Random<'_> {
             8..14 => ends.sort_by(|a, b| b.total_cmp(a)),
             14 => ends.copy_from_slice(&[f64::INFINITY, f64::NEG_INFINITY]),
             _ => ends[self.below(2)] = f64::NAN,
+        }
+    }
+
+    /// Has a third of the z and m missing.
+    fn lose(&mut self, ends: &mut [String]) {
+        if self.below(3) == 0 {
+            ends.fill(MISSING.to_string());
+        }
+    }
+
+    /// A type set: of any bits, of few, of one or of a list.
+    fn set(&mut self) -> u32 {
+        let bits = self.bits() as u32;
+        match self.below(4) {
+            0 => bits,
+            1 => bits & (self.bits() & self.bits()) as u32,
+            2 => 1 << (bits % 32),
+            _ => [0, 1, 0x8000_0000, u32::MAX][self.below(4)],
         }
     }
 }

@@ -1,5 +1,6 @@
 //! Doubles as the case language reads and writes them: `nan`, `inf`, `-inf`; an integer `N`, or a
-//! quotient `N/D` rounded once, with or without `-`; `x` and the 16 hex digits of the bits.
+//! quotient `N/D` rounded once, with or without `-`; `x` and the 16 hex digits of the bits. And type
+//! sets as it reads them: integers of 32 bits.
 
 /// The largest integer of a case. Up to here every integer is a double.
 const LARGEST: u64 = 1 << 53;
@@ -35,11 +36,18 @@ fn read_magnitude(word: &str) -> Option<f64> {
 }
 
 fn read_integer(digits: &str) -> Option<f64> {
-    if !digits.bytes().all(|digit| digit.is_ascii_digit()) {
-        return None;
-    }
-    let value: u64 = digits.parse().ok()?;
+    let value = read_digits(digits)?;
     (value <= LARGEST).then_some(value as f64)
+}
+
+/// The type set that a word spells, by its bits.
+pub fn read_set(word: &str) -> Option<u32> {
+    read_digits(word)?.try_into().ok()
+}
+
+fn read_digits(digits: &str) -> Option<u64> {
+    let is_number = digits.bytes().all(|digit| digit.is_ascii_digit());
+    digits.parse().ok().filter(|_| is_number)
 }
 
 /// The word for a double in an answer: a NaN without its bits, a zero without its sign, and by its
@@ -78,12 +86,15 @@ pub fn write_operand(value: f64) -> String {
     found.unwrap_or_else(|| write_bits(value))
 }
 
-/// A line of a case file: a name and its operands.
-pub fn write_line(name: &str, operands: &[f64]) -> String {
-    let words = operands
-        .iter()
-        .map(|value| " ".to_string() + &write_operand(*value));
+/// A line of a case file: a name and other words.
+pub fn write_line(name: &str, words: &[String]) -> String {
+    let words = words.iter().map(|word| " ".to_string() + word);
     format!("{name}{}\n", words.collect::<String>())
+}
+
+/// The words for doubles as operands.
+pub fn write_operands(values: &[f64]) -> Vec<String> {
+    values.iter().map(|value| write_operand(*value)).collect()
 }
 
 #[cfg(test)]
@@ -112,6 +123,15 @@ mod tests {
         let words = "- + +1 --1 1/ /2 1/0 1/-2 1.5 1e3 -nan --inf 1/inf 9007199254740993 x1 x7FF0000000000000";
         for word in words.split(' ').chain([""]) {
             assert_eq!(read(word), None, "{word}");
+        }
+    }
+
+    #[test]
+    fn type_sets() {
+        assert_eq!(read_set("0"), Some(0));
+        assert_eq!(read_set("4294967295"), Some(u32::MAX));
+        for word in ["", "-", "-1", "+1", "1/1", "inf", "4294967296"] {
+            assert_eq!(read_set(word), None, "{word}");
         }
     }
 

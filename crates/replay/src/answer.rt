@@ -5,11 +5,15 @@ use crate::output::put_all;
 use crate::output::put_decimal;
 use crate::write::bits;
 use crate::write::put_double;
+use sedona_geometry::bounding_box::BoundingBox;
+use sedona_geometry::bounding_box::Dimension;
+use sedona_geometry::bounding_box::Intersected;
 use sedona_geometry::interval::Conversion;
 use sedona_geometry::interval::Intersection;
 use sedona_geometry::interval::Interval;
 use sedona_geometry::interval::Pieces;
 use sedona_geometry::interval::WraparoundInterval;
+use sedona_geometry::types::GeometryTypeAndDimensionsSet;
 
 // The answer of a call.
 pub enum Answer {
@@ -17,10 +21,14 @@ pub enum Answer {
     Unknown,
     Bool(bool),
     Double(f64),
+    // A count, or a type set by its bits.
+    Number(u64),
     Ends(Interval),
     Split(Pieces),
+    Box(BoundingBox),
     // Of a call that can be refused: what it gives, or the number of the refusal.
     Accepted(Interval),
+    AcceptedBox(BoundingBox),
     Refused(u32),
 }
 
@@ -28,6 +36,11 @@ pub enum Answer {
 pub fn ends(x: WraparoundInterval) -> Answer {
     let inner = x.inner;
     Answer::Ends(inner)
+}
+
+// A type set by its bits.
+pub fn of_set(set: GeometryTypeAndDimensionsSet) -> Answer {
+    Answer::Number(set.bits() as u64)
 }
 
 // A plain interval, where the x is one.
@@ -49,19 +62,32 @@ pub fn intersected(intersection: Intersection) -> Answer {
     }
 }
 
+// A box, where the intersection is one.
+pub fn box_intersected(intersection: Intersected) -> Answer {
+    let bounds = intersection.bounds;
+    if intersection.number == 0 {
+        Answer::AcceptedBox(bounds)
+    } else {
+        Answer::Refused(intersection.number)
+    }
+}
+
 // Puts the text of an answer.
 pub fn put_answer(out: &mut Buffer, filled: usize, answer: Answer) -> usize {
     match answer {
         Answer::Unknown => put(out, filled, b'?'),
         Answer::Bool(b) => put_bool(out, filled, b),
         Answer::Double(x) => put_double(out, filled, x),
+        Answer::Number(n) => put_decimal(out, filled, n),
         Answer::Ends(i) => put_ends(out, filled, i),
         Answer::Split(pieces) => {
             let at = put_ends(out, filled, pieces.left);
             let at = put(out, at, b' ');
             put_ends(out, at, pieces.right)
         }
+        Answer::Box(b) => put_box(out, filled, b),
         Answer::Accepted(i) => put_ends(out, filled, i),
+        Answer::AcceptedBox(b) => put_box(out, filled, b),
         Answer::Refused(number) => {
             let at = put_all(out, filled, b"refused ");
             put_decimal(out, at, number as u64)
@@ -85,6 +111,28 @@ fn put_ends(out: &mut Buffer, filled: usize, i: Interval) -> usize {
     put_double(out, at, i.hi)
 }
 
+// Puts the ends of x, y, z and m.
+fn put_box(out: &mut Buffer, filled: usize, b: BoundingBox) -> usize {
+    let x = b.x;
+    let z = b.z;
+    let m = b.m;
+    let at = put_ends(out, filled, x.inner);
+    let at = put(out, at, b' ');
+    let at = put_ends(out, at, b.y);
+    let at = put(out, at, b' ');
+    let at = put_dimension(out, at, z);
+    let at = put(out, at, b' ');
+    put_dimension(out, at, m)
+}
+
+// Puts `LO HI`, or `- -` where it is missing.
+fn put_dimension(out: &mut Buffer, filled: usize, dimension: Dimension) -> usize {
+    match dimension {
+        Dimension::Missing => put_all(out, filled, b"- -"),
+        Dimension::Known(i) => put_ends(out, filled, i),
+    }
+}
+
 // A digest of answers. Each answer is a few words to it.
 pub struct Digest {
     pub value: u32,
@@ -102,10 +150,32 @@ impl Digest {
             Answer::Unknown => self,
             Answer::Bool(b) => self.with_word(b as u64),
             Answer::Double(x) => self.with_double(x),
+            Answer::Number(n) => self.with_word(n),
             Answer::Ends(i) => self.with_ends(i),
             Answer::Split(pieces) => self.with_ends(pieces.left).with_ends(pieces.right),
+            Answer::Box(b) => self.with_box(b),
             Answer::Accepted(i) => self.with_word(0).with_ends(i),
+            Answer::AcceptedBox(b) => self.with_word(0).with_box(b),
             Answer::Refused(number) => self.with_word(number as u64),
+        }
+    }
+
+    // With a box more: its x, y, z and m.
+    fn with_box(self, b: BoundingBox) -> Digest {
+        let x = b.x;
+        let z = b.z;
+        let m = b.m;
+        self.with_ends(x.inner)
+            .with_ends(b.y)
+            .with_dimension(z)
+            .with_dimension(m)
+    }
+
+    // With a z or an m more: whether it is known, and then its ends.
+    fn with_dimension(self, dimension: Dimension) -> Digest {
+        match dimension {
+            Dimension::Missing => self.with_word(0),
+            Dimension::Known(i) => self.with_word(1).with_ends(i),
         }
     }
 

@@ -1,13 +1,21 @@
-// The calls of the case language: their names, how many operands each takes, and what each answers.
+// The calls of the case language: their names, what each takes, and what each answers.
+ghost use mathlib.Core.Path.{_≡_};
+ghost use Rattle.sedona_geometry.specs.BoundingBox.{mergeBox};
 use crate::answer::Answer;
+use crate::answer::box_intersected;
 use crate::answer::converted;
 use crate::answer::ends;
 use crate::answer::intersected;
+use crate::answer::of_set;
+use crate::boxes::BOX;
+use crate::boxes::TWO_BOXES;
 use bytes::scan::find;
 use check::same;
+use sedona_geometry::bounding_box::BoundingBox;
 use sedona_geometry::float;
 use sedona_geometry::interval::Interval;
 use sedona_geometry::interval::WraparoundInterval;
+use sedona_geometry::types::GeometryTypeAndDimensionsSet;
 
 // What a call is of: the part of its name up to the `::`.
 pub enum Owner {
@@ -15,6 +23,8 @@ pub enum Owner {
     Interval,
     WraparoundInterval,
     Float,
+    BoundingBox,
+    GeometryTypeAndDimensionsSet,
 }
 
 // The rest of its name.
@@ -42,18 +52,34 @@ pub enum Name {
     Max,
     Abs,
     Infinity,
+    Xy,
+    Xyzm,
+    Intersects,
+    Contains,
+    MergeBox,
+    UpdateBox,
+    FromBits,
+    Bits,
+    Merge,
+    Size,
+    Clear,
 }
 
 // A row of the tables below.
 pub struct Call {
     owner: Owner,
     name: Name,
-    // How many doubles it takes.
+    // How many words its operands are.
     pub operands: usize,
 }
 
-// The doubles that a call takes. What stands past the last of them does not count.
-pub type Operands = [f64; 4];
+// What the operands of a call are.
+pub enum Takes {
+    Doubles,
+    // One box or two, or a box and a double.
+    Boxes,
+    Sets,
+}
 
 impl Call {
     // The head of a table, which is no call.
@@ -76,6 +102,19 @@ impl Call {
             }
         } else {
             self
+        }
+    }
+
+    // What its operands are.
+    pub fn takes(self) -> Takes {
+        let owner = self.owner;
+        match owner {
+            Owner::GeometryTypeAndDimensionsSet => Takes::Sets,
+            _ => if self.operands < BOX {
+                Takes::Doubles
+            } else {
+                Takes::Boxes
+            },
         }
     }
 
@@ -105,6 +144,12 @@ pub fn call_named(word: &[u8]) -> Call {
     }
     if same(owner, b"float::") {
         return call_of_float(name);
+    }
+    if same(owner, b"BoundingBox::") {
+        return call_of_bounding_box(name);
+    }
+    if same(owner, b"GeometryTypeAndDimensionsSet::") {
+        return call_of_set(name);
     }
     Call::unknown(Owner::Unknown)
 }
@@ -146,20 +191,48 @@ fn call_of_float(word: &[u8]) -> Call {
         .row(word, b"infinity", Name::Infinity, 0)
 }
 
-// Makes a call.
-pub fn make(call: Call, v: Operands) -> Answer {
+// The calls of `BoundingBox`.
+fn call_of_bounding_box(word: &[u8]) -> Call {
+    Call::unknown(Owner::BoundingBox)
+        .row(word, b"xy", Name::Xy, 4)
+        .row(word, b"xyzm", Name::Xyzm, BOX)
+        .row(word, b"empty", Name::Empty, 0)
+        .row(word, b"is_empty", Name::IsEmpty, BOX)
+        .row(word, b"intersects", Name::Intersects, TWO_BOXES)
+        .row(word, b"contains", Name::Contains, TWO_BOXES)
+        .row(word, b"expand_by", Name::ExpandBy, BOX + 1)
+        .row(word, b"merge_box", Name::MergeBox, TWO_BOXES)
+        .row(word, b"update_box", Name::UpdateBox, TWO_BOXES)
+        .row(word, b"intersection", Name::Intersection, TWO_BOXES)
+}
+
+// The calls of `GeometryTypeAndDimensionsSet`.
+fn call_of_set(word: &[u8]) -> Call {
+    Call::unknown(Owner::GeometryTypeAndDimensionsSet)
+        .row(word, b"new", Name::New, 0)
+        .row(word, b"from_bits", Name::FromBits, 1)
+        .row(word, b"bits", Name::Bits, 1)
+        .row(word, b"merge", Name::Merge, 2)
+        .row(word, b"is_empty", Name::IsEmpty, 1)
+        .row(word, b"size", Name::Size, 1)
+        .row(word, b"clear", Name::Clear, 1)
+}
+
+// Makes a call that takes doubles.
+pub fn make(call: Call, v: [f64; 4]) -> Answer {
     let owner = call.owner;
     let name = call.name;
     match owner {
-        Owner::Unknown => Answer::Unknown,
         Owner::Interval => make_of_interval(name, v),
         Owner::WraparoundInterval => make_of_wraparound_interval(name, v),
         Owner::Float => make_of_float(name, v),
+        Owner::BoundingBox => make_of_ends(name, v),
+        _ => Answer::Unknown,
     }
 }
 
 // The operands: `LO HI`, then a value or the other's `LO HI`.
-fn make_of_interval(name: Name, v: Operands) -> Answer {
+fn make_of_interval(name: Name, v: [f64; 4]) -> Answer {
     let i = Interval::new(v[0], v[1]);
     let value = v[2];
     let other = Interval::new(v[2], v[3]);
@@ -184,7 +257,7 @@ fn make_of_interval(name: Name, v: Operands) -> Answer {
 }
 
 // The operands are as for `Interval`.
-fn make_of_wraparound_interval(name: Name, v: Operands) -> Answer {
+fn make_of_wraparound_interval(name: Name, v: [f64; 4]) -> Answer {
     let x = WraparoundInterval::new(v[0], v[1]);
     let value = v[2];
     let other = WraparoundInterval::new(v[2], v[3]);
@@ -212,12 +285,66 @@ fn make_of_wraparound_interval(name: Name, v: Operands) -> Answer {
 }
 
 // The operands are one number or two.
-fn make_of_float(name: Name, v: Operands) -> Answer {
+fn make_of_float(name: Name, v: [f64; 4]) -> Answer {
     match name {
         Name::Min => Answer::Double(float::min(v[0], v[1])),
         Name::Max => Answer::Double(float::max(v[0], v[1])),
         Name::Abs => Answer::Double(float::abs(v[0])),
         Name::Infinity => Answer::Double(float::infinity()),
+        _ => Answer::Unknown,
+    }
+}
+
+// The operands are the ends of x and y, or none.
+fn make_of_ends(name: Name, v: [f64; 4]) -> Answer {
+    match name {
+        Name::Xy => Answer::Box(BoundingBox::xy(
+            WraparoundInterval::new(v[0], v[1]),
+            Interval::new(v[2], v[3]),
+        )),
+        Name::Empty => Answer::Box(BoundingBox::empty()),
+        _ => Answer::Unknown,
+    }
+}
+
+// Makes a call that takes boxes: with another one or a distance where it takes that too.
+pub fn make_of_boxes(call: Call, b: BoundingBox, other: BoundingBox, distance: f64) -> Answer {
+    let name = call.name;
+    match name {
+        Name::Xyzm => Answer::Box(b),
+        Name::IsEmpty => Answer::Bool(b.is_empty()),
+        Name::Intersects => Answer::Bool(b.intersects(other)),
+        Name::Contains => Answer::Bool(b.contains(other)),
+        Name::ExpandBy => Answer::Box(b.expand_by(distance)),
+        Name::MergeBox => Answer::Box(b.merge_box(other)),
+        Name::UpdateBox => Answer::Box(updated(b, other)),
+        Name::Intersection => box_intersected(b.intersection(other)),
+        _ => Answer::Unknown,
+    }
+}
+
+// What a box holds after `update_box`, to which it is lent.
+fn updated(a: BoundingBox, b: BoundingBox) -> BoundingBox
+    ensures { λ r. ⌜ r ≡ mergeBox a b ⌝ }
+{
+    let mut lent = a;
+    lent.update_box(b);
+    lent
+}
+
+// Makes a call that takes type sets, by their bits.
+pub fn make_of_sets(call: Call, bits: u32, other_bits: u32) -> Answer {
+    let name = call.name;
+    let set = GeometryTypeAndDimensionsSet::from_bits(bits);
+    let other = GeometryTypeAndDimensionsSet::from_bits(other_bits);
+    match name {
+        Name::New => of_set(GeometryTypeAndDimensionsSet::new()),
+        Name::FromBits => of_set(set),
+        Name::Bits => Answer::Number(set.bits() as u64),
+        Name::Merge => of_set(set.merge(other)),
+        Name::IsEmpty => Answer::Bool(set.is_empty()),
+        Name::Size => Answer::Number(set.size() as u64),
+        Name::Clear => of_set(set.clear()),
         _ => Answer::Unknown,
     }
 }

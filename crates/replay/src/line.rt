@@ -1,19 +1,27 @@
-// The lines of a case file: comments are copied, `values V V ..` sets the values that sweeps go
-// over, `sweep CALL` and `CALL V V ..` are answered.
+// The lines of a case file: comments are copied; `values V V ..`, `intervals LO HI ..` and
+// `sets S S ..` set the lists that sweeps go over; `sweep CALL` and `CALL V V ..` are answered.
 use crate::answer::Answer;
 use crate::answer::put_answer;
+use crate::boxes::BOX;
+use crate::boxes::MOST_INTERVALS;
+use crate::boxes::are_boxes;
+use crate::boxes::box_at;
 use crate::calls::Call;
+use crate::calls::Takes;
 use crate::calls::call_named;
 use crate::calls::make;
+use crate::calls::make_of_boxes;
+use crate::calls::make_of_sets;
 use crate::output::Buffer;
 use crate::output::put;
 use crate::output::put_all;
 use crate::output::put_decimal;
 use crate::output::put_hex;
-use crate::read::Doubles;
-use crate::read::read_doubles;
 use crate::sweep::Swept;
 use crate::sweep::sweep;
+use crate::words::Lists;
+use crate::words::Words;
+use crate::words::read_words;
 use bytes::scan::find;
 use check::same;
 
@@ -29,16 +37,16 @@ pub enum Reply {
     Swept(Swept),
 }
 
-// What becomes of a line: the reply to it, and the values that later sweeps go over.
+// What becomes of a line: the reply to it, and the lists that later sweeps go over.
 pub struct Outcome {
     pub reply: Reply,
-    pub values: Doubles,
+    pub lists: Lists,
 }
 
 impl Outcome {
-    // A reply with the values from then on.
-    fn new(reply: Reply, values: Doubles) -> Outcome {
-        Outcome { reply, values }
+    // A reply with the lists from then on.
+    fn new(reply: Reply, lists: Lists) -> Outcome {
+        Outcome { reply, lists }
     }
 }
 
@@ -52,57 +60,101 @@ pub fn push(line: &mut Line, length: usize, byte: u8) -> usize {
 }
 
 // What becomes of a line of this length.
-pub fn outcome_of(line: &Line, length: usize, values: Doubles) -> Outcome {
+pub fn outcome_of(line: &Line, length: usize, lists: Lists) -> Outcome {
     if length == 0 || line[0] == b'#' {
-        return Outcome::new(Reply::Nothing, values);
+        return Outcome::new(Reply::Nothing, lists);
     }
     let bytes = &line[..];
     if length < bytes.len() {
-        return outcome_of_case(&bytes[0..length], values);
+        return outcome_of_case(&bytes[0..length], lists);
     }
-    Outcome::new(Reply::Answer(Answer::Unknown), values)
+    Outcome::new(Reply::Answer(Answer::Unknown), lists)
 }
 
 // What becomes of a line that is no comment.
-fn outcome_of_case(line: &[u8], values: Doubles) -> Outcome {
+fn outcome_of_case(line: &[u8], lists: Lists) -> Outcome {
     let end = find(line, 0, line.len(), b' ');
     let first = &line[0..end];
-    if same(first, b"values") {
-        return set_values(read_doubles(line, end), values);
-    }
     if same(first, b"sweep") {
-        return Outcome::new(reply_to_sweep(&line[end..], values), values);
+        return Outcome::new(reply_to_sweep(&line[end..], lists), lists);
     }
-    let answer = answer_to(call_named(first), read_doubles(line, end));
-    Outcome::new(Reply::Answer(answer), values)
+    let words = read_words(line, end);
+    if same(first, b"values") {
+        return set_list(words.are_doubles, lists.with_values(words), lists);
+    }
+    if same(first, b"intervals") {
+        return set_list(are_intervals(words), lists.with_intervals(words), lists);
+    }
+    if same(first, b"sets") {
+        return set_list(words.are_sets, lists.with_sets(words), lists);
+    }
+    let answer = answer_to(call_named(first), words);
+    Outcome::new(Reply::Answer(answer), lists)
 }
 
-// A `values` line: good values take the place of the old.
-fn set_values(new: Doubles, old: Doubles) -> Outcome {
-    if new.is_good {
+// A line with a list, which takes the place of the old where it is good.
+fn set_list(is_good: bool, new: Lists, old: Lists) -> Outcome {
+    if is_good {
         Outcome::new(Reply::Nothing, new)
     } else {
         Outcome::new(Reply::Answer(Answer::Unknown), old)
     }
 }
 
+// Whether words are the ends of intervals, and of no more than a list has.
+fn are_intervals(words: Words) -> bool {
+    words.are_doubles && words.count % 2 == 0 && words.count <= 2 * MOST_INTERVALS
+}
+
 // A `sweep` line: the rest of it is a space and the name of a call.
-fn reply_to_sweep(rest: &[u8], values: Doubles) -> Reply {
+fn reply_to_sweep(rest: &[u8], lists: Lists) -> Reply {
     if rest.len() == 0 {
         return Reply::Answer(Answer::Unknown);
     }
     let call = call_named(&rest[1..]);
     if call.is_known() {
-        Reply::Swept(sweep(call, values))
+        Reply::Swept(sweep(call, lists))
     } else {
         Reply::Answer(Answer::Unknown)
     }
 }
 
 // What a single case answers.
-fn answer_to(call: Call, v: Doubles) -> Answer {
-    if v.is_good && v.count == call.operands {
-        make(call, [v.list[0], v.list[1], v.list[2], v.list[3]])
+fn answer_to(call: Call, words: Words) -> Answer {
+    if words.count != call.operands {
+        return Answer::Unknown;
+    }
+    match call.takes() {
+        Takes::Doubles => answer_to_doubles(call, words),
+        Takes::Boxes => answer_to_boxes(call, words),
+        Takes::Sets => answer_to_sets(call, words),
+    }
+}
+
+// What a case answers that takes doubles.
+fn answer_to_doubles(call: Call, words: Words) -> Answer {
+    let v = words.doubles;
+    if words.are_doubles {
+        make(call, [v[0], v[1], v[2], v[3]])
+    } else {
+        Answer::Unknown
+    }
+}
+
+// What a case answers that takes boxes.
+fn answer_to_boxes(call: Call, words: Words) -> Answer {
+    if are_boxes(words) {
+        let distance = words.doubles[BOX];
+        make_of_boxes(call, box_at(words, 0), box_at(words, BOX), distance)
+    } else {
+        Answer::Unknown
+    }
+}
+
+// What a case answers that takes type sets.
+fn answer_to_sets(call: Call, words: Words) -> Answer {
+    if words.are_sets {
+        make_of_sets(call, words.sets[0], words.sets[1])
     } else {
         Answer::Unknown
     }

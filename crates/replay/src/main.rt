@@ -1,11 +1,14 @@
 // Reads cases from standard input and writes them, with their answers, to standard output. Each
 // byte is copied as it is read; before the end of a line comes the reply to it.
 mod answer;
+mod boxes;
 mod calls;
+mod digits;
 mod line;
 mod output;
 mod read;
 mod sweep;
+mod words;
 mod write;
 
 use libc::STDIN_FILENO;
@@ -17,12 +20,12 @@ use line::put_reply;
 use output::Buffer;
 use output::flush;
 use output::put;
-use read::Doubles;
+use words::Lists;
 
 // What is kept from one byte of the input to the next.
 struct State {
     // What sweeps go over.
-    values: Doubles,
+    lists: Lists,
     // How long the line is so far.
     length: usize,
     // How much of the output buffer is filled.
@@ -35,7 +38,7 @@ impl State {
     // Before the first byte.
     fn new() -> State {
         State {
-            values: Doubles::none(),
+            lists: Lists::none(),
             length: 0,
             filled: 0,
             is_over: false,
@@ -95,12 +98,12 @@ fn take_bytes(bytes: &[u8], before: State, line: &mut Line, out: &mut Buffer) ->
 
 // Puts the reply to a line, and the line's end.
 fn end_line(before: State, line: &Line, out: &mut Buffer) -> State {
-    let outcome = outcome_of(line, before.length, before.values);
+    let outcome = outcome_of(line, before.length, before.lists);
     let reply = outcome.reply;
-    let values = outcome.values;
+    let lists = outcome.lists;
     let at = put_reply(out, before.filled, reply);
     State {
-        values,
+        lists,
         length: 0,
         filled: put(out, at, b'\n'),
         is_over: before.is_over,

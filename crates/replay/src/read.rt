@@ -1,5 +1,5 @@
-// The words of a line, read as doubles: `nan`, `inf`, an integer `N` or a quotient `N/D`, the last
-// three with or without `-`; or `x` and the 16 hex digits of the bits.
+// Words, read as doubles: `nan`, `inf`, an integer `N` or a quotient `N/D`, the last three with or
+// without `-`; or `x` and the 16 hex digits of the bits. And words, read as type sets: integers.
 ghost use Prim.Native.Nat.{_≤_};
 use bytes::scan::find;
 use check::same;
@@ -7,19 +7,15 @@ use check::same;
 // The largest integer of a case. Up to here every integer is a double.
 pub const LARGEST: u64 = 9007199254740992;
 
-// The most doubles that a line can have.
-pub const MOST_DOUBLES: usize = 32;
-
-// A list of doubles. It is bad where a word was no double, or there was one too many.
-pub struct Doubles {
-    pub list: [f64; MOST_DOUBLES],
-    pub count: usize,
-    pub is_good: bool,
+// What a word spells, read as a double.
+pub enum Reading {
+    Double(f64),
+    Bad,
 }
 
-// What a word spells.
-enum Reading {
-    Double(f64),
+// What a word spells, read as a type set.
+pub enum TypeSet {
+    Bits(u32),
     Bad,
 }
 
@@ -29,46 +25,8 @@ enum Number {
     Bad,
 }
 
-impl Doubles {
-    // An empty list, which is good.
-    pub fn none() -> Doubles {
-        Doubles {
-            list: [0.0; MOST_DOUBLES],
-            count: 0,
-            is_good: true,
-        }
-    }
-
-    // The list with a word more.
-    fn with(self, word: Reading) -> Doubles {
-        let at = self.count;
-        let mut doubles = self;
-        if let Reading::Double(x) = word {
-            if at < MOST_DOUBLES {
-                doubles.list[at] = x;
-                doubles.count = at + 1;
-                return doubles;
-            }
-        }
-        doubles.is_good = false;
-        doubles
-    }
-}
-
-// The doubles that the words of a line spell, from the end of an earlier word on.
-pub fn read_doubles(line: &[u8], end_of_word: usize) -> Doubles {
-    let mut doubles = Doubles::none();
-    let mut at = end_of_word;
-    while at < line.len() {
-        let end = find(line, at + 1, line.len(), b' ');
-        doubles = doubles.with(read_double(&line[at + 1..end]));
-        at = end;
-    }
-    doubles
-}
-
 // The double that a word spells.
-fn read_double(word: &[u8]) -> Reading {
+pub fn read_double(word: &[u8]) -> Reading {
     if word.len() == 0 {
         return Reading::Bad;
     }
@@ -155,6 +113,17 @@ fn from_bits(bits: u64) -> f64 {
     } else {
         f64::from_bits(bits)
     }
+}
+
+// The type set that a word spells: an integer of 32 bits.
+pub fn read_set(word: &[u8]) -> TypeSet {
+    let Number::Whole(n) = read_digits(word, 10) else {
+        return TypeSet::Bad;
+    };
+    if n > 0xffff_ffff {
+        return TypeSet::Bad;
+    }
+    TypeSet::Bits(n as u32)
 }
 
 // The number that one or more digits of a base spell. It is bad where it might not fit.

@@ -13,9 +13,9 @@ use Rattle.sedona_geometry.specs.WraparoundInterval.{Accepts, fromInterv
 use Rattle.sedona_geometry.specs.declared.interval.Interval.{Interval}
 use Rattle.sedona_geometry.specs.declared.interval.WraparoundInterval.{WraparoundInterval}
 use Rattle.sedona_geometry.specs.declared.interval.Intersection.{Intersection}
-use Rattle.sedona_geometry.proofs.Order.{Number, infinite, Le, holds, fails, is-true, is-false, or-left, or-right, le-of-not-lt, le-refl, le-trans, le-number, number-of-test, top-not-bottom, below-bottom, lt-not-le}
+use Rattle.sedona_geometry.proofs.Order.{Number, infinite, Le, holds, fails, is-true, is-false, or-left, or-right, le-of-eq, le-of-not-lt, le-refl, le-trans, le-number, number-of-test, top-not-bottom, below-bottom, lt-not-le}
 use Rattle.sedona_geometry.proofs.MinMax.{min-le-left, min-le-right, min-greatest, min-fits, max-ge-left, max-ge-right, max-least, max-fits}
-use Rattle.sedona_geometry.proofs.Rounding.{sub-neg}
+use Rattle.sedona_geometry.proofs.Rounding.{sub-neg, sub-number}
 use Rattle.sedona_geometry.proofs.Accepts as plain
 use Rattle.sedona_geometry.proofs.Wrapping.{split-plain, split-wrapped, low-to-high-plain, empty-not-wrapped, plain-of-accepts, accepts-of-plain, none-accepted, infinite-doubles}
 
@@ -194,12 +194,10 @@ module _ {i j : Interval} (h : Le (i .lo) (i .hi)) (k : Le (j .lo) (j .hi)) wher
         rw (ordered-is (le-trans l u)) (plain.accepts l u),
   )
 
-  pub intersection-straight : Straight (fromInterval (interval.intersection i j))
-  unfolding interval.intersection
-  intersection-straight =
-      ordered-straight
-      (le-number (max-ge-left (j .lo) (le-refl (le-number h .0))) .1)
-      (le-number (min-le-left (j .hi) (le-refl (le-number h .1))) .0)
+pub intersection-straight : {i : Interval} (j : Interval) → Number (i .lo) → Number (i .hi) → Straight (fromInterval (interval.intersection i j))
+unfolding interval.intersection
+intersection-straight j L H =
+    ordered-straight (le-number (max-ge-left (j .lo) (le-refl L)) .1) (le-number (min-le-left (j .hi) (le-refl H)) .0)
 
 -- Of two x that do not wrap it is never refused.
 pub intersection-plain : (x y : WraparoundInterval) → isWraparound x ≡ false → isWraparound y ≡ false
@@ -212,9 +210,26 @@ straight-accepts D s = (λ h. plain-of-accepts (straight-plain D s) h, λ h. acc
 
 pub x-intersection-accepts : {x y : WraparoundInterval} {v : Float} → Doubles (x .inner) → Doubles (y .inner) → Le (x .inner .lo) (x .inner .hi) → Le (y .inner .lo) (y .inner .hi)
     → Accepts (fromInterval (interval.intersection (x .inner) (y .inner))) v ↔ (Accepts x v × Accepts y v)
-x-intersection-accepts D E h k =
-    let z = straight-accepts (intersection-doubles D E) (intersection-straight h k) in
+x-intersection-accepts {x} {y} D E h k =
+    let z = straight-accepts (intersection-doubles D E) (intersection-straight (y .inner) (le-number h .0) (le-number h .1)) in
     let a = straight-accepts D (ordered h) in
     let b = straight-accepts E (ordered k) in
     let c = intersection-accepts h k in
     (λ p. let q = c .0 (z .0 p) in (a .1 (q .0), b .1 (q .1)), λ p. z .1 (c .1 (a .0 (p .0), b .0 (p .1))))
+
+pub straight-numbers : {x : WraparoundInterval} → Straight x → Number (x .inner .lo) × Number (x .inner .hi)
+unfolding interval.isEmpty
+straight-numbers {x} (empty e) =
+    let n = sub-number binary64 (x .inner .hi) (x .inner .lo) (le-number (le-of-eq (holds e)) .0) in
+    (n .1, n .0)
+straight-numbers (ordered h) = le-number h
+
+-- what both contain, their intersection contains: for x that run straight
+pub x-intersection-contains : {x y k : WraparoundInterval} → Doubles (x .inner) → Doubles (y .inner) → Straight x → Straight y → Le (k .inner .lo) (k .inner .hi)
+    → containsInterval x k ≡ true → containsInterval y k ≡ true → containsInterval (fromInterval (interval.intersection (x .inner) (y .inner))) k ≡ true
+x-intersection-contains {x} {y} {k} D E s t l p q =
+    let a = contains-plain x k (straight-plain D s) p in
+    let b = contains-plain y k (straight-plain E t) q in
+    let n = straight-numbers s in
+    plain-contains (fromInterval (interval.intersection (x .inner) (y .inner))) k (straight-plain (intersection-doubles D E) (intersection-straight (y .inner) (n .0) (n .1))) (a .0)
+    (intersection-contains l (a .1) (b .1))

@@ -1,8 +1,13 @@
 pub mod Accepts
+pub mod Bits
+pub mod Boxes
 pub mod Contains
+pub mod Kind
 pub mod Marked
 pub mod MinMax
 pub mod Order
 pub mod Rounding
+pub mod Says
 pub mod Sign
+pub mod Update
 pub mod Wrapping

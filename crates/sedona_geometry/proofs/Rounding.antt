@@ -352,7 +352,7 @@ sub-inf f (inf false) true N = refl
 sub-inf f (fin s m e) t N = refl
 
 -- a difference that is a number has numbers for operands
-sub-number : (f : Format) (x y : Float) → Number (sub f x y) → Number x × Number y
+pub sub-number : (f : Format) (x y : Float) → Number (sub f x y) → Number x × Number y
 unfolding sub
 sub-number f (inf s) (inf t) N = (infinite, infinite)
 sub-number f (inf s) (fin t n d) N = (infinite, finite)

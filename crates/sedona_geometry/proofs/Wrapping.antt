@@ -227,6 +227,36 @@ merge-accepts {x} {y} {v} D E h = go (isEmpty x) (isEmpty y) refl refl
     go false true e f = ⊎-elim (λ k. k) (λ k. absurd (empty-accepts-nothing E f k)) h
     go false false e f = merge-non-empty-accepts D E h
 
+-- ---- merged ends are doubles
+from-pieces-doubles : {l r : Interval} → Doubles l → Doubles r → Doubles (fromPieces l r .inner)
+unfolding fromPieces
+from-pieces-doubles {l} {r} L R = go (interval.intersectsInterval l r)
+  where
+    go : (b : Bool) → Doubles (cond b full (new (r .lo) (l .hi)) .inner)
+    go true = infinite-doubles true false
+    go false = record { lo = R .lo; hi = L .hi }
+
+merge-plain-doubles : {x y : WraparoundInterval} → Doubles (x .inner) → Doubles (y .inner) → Doubles (mergePlain x y .inner)
+unfolding mergePlain
+merge-plain-doubles {x} {y} D E = go (nearerLeft x y)
+  where
+    go : (b : Bool) → Doubles (cond b (fromPieces (interval.mergeInterval (split x .left) (y .inner)) (split x .right)) (fromPieces (split x .left) (interval.mergeInterval (split x .right) (y .inner))) .inner)
+    go true = from-pieces-doubles (plain.merge-doubles (split-doubles x D .0) E) (split-doubles x D .1)
+    go false = from-pieces-doubles (split-doubles x D .0) (plain.merge-doubles (split-doubles x D .1) E)
+
+pub merge-doubles : {x y : WraparoundInterval} → Doubles (x .inner) → Doubles (y .inner) → Doubles (mergeInterval x y .inner)
+unfolding mergeInterval mergeNonEmpty mergeWrapped
+merge-doubles {x} {y} D E = go (isEmpty x) (isEmpty y) (isWraparound x) (isWraparound y)
+  where
+    go : (a b c d : Bool)
+        → Doubles (cond a y (cond b x (cond c (cond d (mergeWrapped x y) (mergePlain x y)) (cond d (mergePlain y x) (fromInterval (interval.mergeInterval (x .inner) (y .inner)))))) .inner)
+    go true b c d = E
+    go false true c d = D
+    go false false true true = from-pieces-doubles (plain.merge-doubles (split-doubles x D .0) (split-doubles y E .0)) (plain.merge-doubles (split-doubles x D .1) (split-doubles y E .1))
+    go false false true false = merge-plain-doubles D E
+    go false false false true = merge-plain-doubles E D
+    go false false false false = plain.merge-doubles D E
+
 -- ---- merging a value
 module _ {x : WraparoundInterval} {v : Float} (D : Doubles (x .inner)) (F : T (fits binary64 v)) where
   -- the value lies between the ends of a wrapped x that does not accept it

@@ -32,6 +32,13 @@ intersectsValue i v = le (i .lo) v && le v (i .hi)
 pub record Accepts (i : Interval) (v : Float) : Type 0 where
   pub holds : intersectsValue i v ≡ true
 
+-- 01's "common number": a double that both accept.
+pub record Common (i j : Interval) : Type 0 where
+  pub number : Float
+  pub double : T (fits binary64 number)
+  pub left : Accepts i number
+  pub right : Accepts j number
+
 unfoldable pub intersectsInterval : Interval → Interval → Bool
 intersectsInterval i j = le (i .lo) (j .hi) && le (j .lo) (i .hi)
 

@@ -1,7 +1,8 @@
 -- `WraparoundInterval` of interval.rs, method by method.
 use mathlib.Core.Path.{_≡_}
 use mathlib.Core.Bool.{Bool, true, false, not, _&&_, _||_, cond}
-use lib.Ieee.{Float, inf, binary64, add, sub, lt, le, isNan}
+use lib.Dec.{T}
+use lib.Ieee.{Float, inf, binary64, add, sub, lt, le, isNan, fits}
 use Rattle.sedona_geometry.specs.Error as error
 use Rattle.sedona_geometry.specs.Float as float
 use Rattle.sedona_geometry.specs.Interval as interval
@@ -51,6 +52,13 @@ intersectsValue x v = interval.intersectsValue (split x .left) v || interval.int
 -- 01's "accepts".
 pub record Accepts (x : WraparoundInterval) (v : Float) : Type 0 where
   pub holds : intersectsValue x v ≡ true
+
+-- 01's "common number": a double that both accept.
+pub record Common (x y : WraparoundInterval) : Type 0 where
+  pub number : Float
+  pub double : T (fits binary64 number)
+  pub left : Accepts x number
+  pub right : Accepts y number
 
 -- The interval intersects one of the pieces.
 unfoldable pub piecesIntersect : Pieces → Interval → Bool

@@ -5,13 +5,13 @@ use Rattle.replay.proofs.sweep.sweep.Statement.{statement}
 use Rattle.replay.proofs.sweep.sweep.Tie as tie
 
 abbrev Inv-loop : tie.InvT-loop
-Inv-loop call values digest₀ count₀ digest count = Unit
+Inv-loop call lists digest₀ count₀ digest count = Unit
 
 abbrev μ-loop : tie.MeasureT-loop
-μ-loop call values digest₀ count₀ digest count = 1048576 - count
+μ-loop call lists digest₀ count₀ digest count = 3111696 - count
 
 pub sweep-spec : {M : Type 1} → statement M
 sweep-spec =
     tie.close
-    (tie.spec Inv-loop μ-loop (λ c κs. tt) (λ c. tt) (λ c κs. tt) (λ c κs. tt) (λ c κs. tt)
+    (tie.spec Inv-loop μ-loop (λ c κs. tt) (λ c. tt) (λ c κs. tt) (λ c κs. tt)
     (λ c. search needs) (λ c. search needs) (λ c. tt) (λ c. tt) (λ c. tt))

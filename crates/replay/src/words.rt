@@ -1,0 +1,149 @@
+// The words of a line, and the lists that sweeps go over.
+use crate::read::Reading;
+use crate::read::TypeSet;
+use crate::read::read_double;
+use crate::read::read_set;
+use bytes::scan::find;
+use check::same;
+
+// The most words that a line can have behind its first.
+pub const MOST_WORDS: usize = 32;
+
+// The words behind the first of a line, each as all that it can be.
+pub struct Words {
+    pub doubles: [f64; MOST_WORDS],
+    pub sets: [u32; MOST_WORDS],
+    // Whether a word is `-`, the mark of what is missing.
+    pub is_missing: [bool; MOST_WORDS],
+    pub count: usize,
+    // Whether each word is a double; a double or a mark; a type set. None of it is where there is
+    // a word too many.
+    pub are_doubles: bool,
+    pub are_ends: bool,
+    pub are_sets: bool,
+}
+
+impl Words {
+    // No words.
+    fn none() -> Words {
+        Words {
+            doubles: [0.0; MOST_WORDS],
+            sets: [0; MOST_WORDS],
+            is_missing: [false; MOST_WORDS],
+            count: 0,
+            are_doubles: true,
+            are_ends: true,
+            are_sets: true,
+        }
+    }
+
+    // The words with one more.
+    fn with(self, word: &[u8]) -> Words {
+        let at = self.count;
+        let is_missing = same(word, b"-");
+        let mut words = self;
+        if at >= MOST_WORDS {
+            words.are_doubles = false;
+            words.are_ends = false;
+            words.are_sets = false;
+            return words;
+        }
+        words.count = at + 1;
+        words.is_missing[at] = is_missing;
+        if let TypeSet::Bits(bits) = read_set(word) {
+            words.sets[at] = bits;
+        } else {
+            words.are_sets = false;
+        }
+        if let Reading::Double(x) = read_double(word) {
+            words.doubles[at] = x;
+        } else {
+            words.are_doubles = false;
+            words.are_ends = words.are_ends && is_missing;
+        }
+        words
+    }
+
+    // As a list of doubles.
+    fn as_doubles(self) -> Doubles {
+        let list = self.doubles;
+        Doubles {
+            list,
+            count: self.count,
+        }
+    }
+
+    // As a list of type sets.
+    fn as_sets(self) -> Sets {
+        let list = self.sets;
+        Sets {
+            list,
+            count: self.count,
+        }
+    }
+}
+
+// The words of a line, from the end of its first on.
+pub fn read_words(line: &[u8], end_of_first: usize) -> Words {
+    let mut words = Words::none();
+    let mut at = end_of_first;
+    while at < line.len() {
+        let end = find(line, at + 1, line.len(), b' ');
+        words = words.with(&line[at + 1..end]);
+        at = end;
+    }
+    words
+}
+
+// A list of doubles.
+pub struct Doubles {
+    pub list: [f64; MOST_WORDS],
+    pub count: usize,
+}
+
+// A list of type sets.
+pub struct Sets {
+    pub list: [u32; MOST_WORDS],
+    pub count: usize,
+}
+
+// What sweeps go over: doubles by the values, boxes by the intervals, whose ends are in a list,
+// and type sets.
+pub struct Lists {
+    pub values: Doubles,
+    pub ends: Doubles,
+    pub sets: Sets,
+}
+
+impl Lists {
+    // Three empty lists.
+    pub fn none() -> Lists {
+        let none = Words::none();
+        Lists {
+            values: none.as_doubles(),
+            ends: none.as_doubles(),
+            sets: none.as_sets(),
+        }
+    }
+
+    // With other values.
+    pub fn with_values(self, words: Words) -> Lists {
+        let mut lists = self;
+        lists.values = words.as_doubles();
+        lists
+    }
+
+    // With other intervals.
+    pub fn with_intervals(self, words: Words) -> Lists {
+        let mut lists = self;
+        lists.ends = words.as_doubles();
+        lists
+    }
+
+    // With other type sets.
+    pub fn with_sets(self, words: Words) -> Lists {
+        let mut lists = self;
+        lists.sets = words.as_sets();
+        lists
+    }
+}

@@ -1,0 +1,186 @@
+-- Laws of boxes: merging loses nothing, a common number means intersecting, merging and intersecting keep what is contained.
+-- Each is said once for a dimension. Assumes nothing.
+use mathlib.Core.Path.{_≡_, refl}
+use mathlib.Core.Logic.{_⊎_, inl, inr, ⊎-elim}
+use mathlib.Core.Bool.{Bool, true, _&&_}
+use lib.Ieee.Fits.{and-l, and-r}
+use Rattle.sedona_geometry.specs.Interval as interval
+use Rattle.sedona_geometry.specs.WraparoundInterval as wraparound
+use Rattle.sedona_geometry.specs.BoundingBox.{testKnown, joinKnown, dimensionsIntersect, dimensionsContain, mergeDimensions, intersectDimensions, intersects, contains, mergeBox, withX, intersection, single, xyzm, WhereKnown, DoublesWhereKnown, Doubles, AcceptsAllOfKnown, NoLess, Common}
+use Rattle.sedona_geometry.specs.declared.bounding_box.Dimension.{Dimension}
+use Rattle.sedona_geometry.specs.declared.bounding_box.Dimension.the-variants.{Missing, Known}
+use Rattle.sedona_geometry.specs.declared.bounding_box.BoundingBox.{BoundingBox}
+use Rattle.sedona_geometry.proofs.Order.{Le, holds, is-true}
+use Rattle.sedona_geometry.proofs.Accepts as plain
+use Rattle.sedona_geometry.proofs.Wrapping as wrapping
+use Rattle.sedona_geometry.proofs.Contains as containing
+use Rattle.sedona_geometry.proofs.Contains.{Straight, Contains}
+
+-- ---- merging loses nothing
+merge-dimensions-left : (d e : Dimension) → AcceptsAllOfKnown (mergeDimensions d e) d
+unfolding joinKnown
+merge-dimensions-left Missing e = tt
+merge-dimensions-left (Known i) Missing = tt
+merge-dimensions-left (Known i) (Known j) = λ v h. plain.merge-accepts-left j h
+
+merge-dimensions-right : (d e : Dimension) → AcceptsAllOfKnown (mergeDimensions d e) e
+unfolding joinKnown
+merge-dimensions-right Missing e = tt
+merge-dimensions-right (Known i) Missing = tt
+merge-dimensions-right (Known i) (Known j) = λ v h. plain.merge-accepts-right i h
+
+pub merge-no-less-left : {a b : BoundingBox} → Doubles a → Doubles b → NoLess (mergeBox a b) a
+unfolding mergeBox
+merge-no-less-left {a} {b} D E = record {
+  x = λ v h. wrapping.merge-accepts (D .x) (E .x) (inl h);
+  y = λ v h. plain.merge-accepts-left (b .y) h;
+  z = merge-dimensions-left (a .z) (b .z);
+  m = merge-dimensions-left (a .m) (b .m);
+}
+
+pub merge-no-less-right : {a b : BoundingBox} → Doubles a → Doubles b → NoLess (mergeBox a b) b
+unfolding mergeBox
+merge-no-less-right {a} {b} D E = record {
+  x = λ v h. wrapping.merge-accepts (D .x) (E .x) (inr h);
+  y = λ v h. plain.merge-accepts-right (a .y) h;
+  z = merge-dimensions-right (a .z) (b .z);
+  m = merge-dimensions-right (a .m) (b .m);
+}
+
+-- ---- merged ends are doubles
+merge-dimensions-doubles : (d e : Dimension) → DoublesWhereKnown d → DoublesWhereKnown e → DoublesWhereKnown (mergeDimensions d e)
+unfolding joinKnown
+merge-dimensions-doubles Missing e D E = tt
+merge-dimensions-doubles (Known i) Missing D E = tt
+merge-dimensions-doubles (Known i) (Known j) D E = plain.merge-doubles D E
+
+pub merge-doubles : {a b : BoundingBox} → Doubles a → Doubles b → Doubles (mergeBox a b)
+unfolding mergeBox
+merge-doubles {a} {b} D E = record {
+  x = wrapping.merge-doubles (D .x) (E .x);
+  y = plain.merge-doubles (D .y) (E .y);
+  z = merge-dimensions-doubles (a .z) (b .z) (D .z) (E .z);
+  m = merge-dimensions-doubles (a .m) (b .m) (D .m) (E .m);
+}
+
+-- ---- accepting no less is a preorder
+known-refl : (d : Dimension) → AcceptsAllOfKnown d d
+known-refl Missing = tt
+known-refl (Known i) = λ v h. h
+
+known-trans : (f e d : Dimension) → AcceptsAllOfKnown f e → AcceptsAllOfKnown e d → AcceptsAllOfKnown f d
+known-trans Missing e d p q = tt
+known-trans (Known k) Missing d p q = absurd p
+known-trans (Known k) (Known j) Missing p q = q
+known-trans (Known k) (Known j) (Known i) p q = λ v h. p v (q v h)
+
+pub no-less-refl : (a : BoundingBox) → NoLess a a
+no-less-refl a = record { x = λ v h. h; y = λ v h. h; z = known-refl (a .z); m = known-refl (a .m) }
+
+pub no-less-trans : {c b a : BoundingBox} → NoLess c b → NoLess b a → NoLess c a
+no-less-trans {c} {b} {a} p q = record {
+  x = λ v h. p .x v (q .x v h);
+  y = λ v h. p .y v (q .y v h);
+  z = known-trans (c .z) (b .z) (a .z) (p .z) (q .z);
+  m = known-trans (c .m) (b .m) (a .m) (p .m) (q .m);
+}
+
+-- ---- boxes with a common number intersect
+four : (a b c d : Bool) → a ≡ true → b ≡ true → c ≡ true → d ≡ true → (a && b && c && d) ≡ true
+four a b c d p q r s = rw (p, q, r, s)
+
+dimensions-intersect : (d e : Dimension) → WhereKnown interval.Common d e → dimensionsIntersect d e ≡ true
+unfolding testKnown
+dimensions-intersect Missing e c = refl
+dimensions-intersect (Known i) Missing c = refl
+dimensions-intersect (Known i) (Known j) c = plain.common-intersect (c .left) (c .right)
+
+pub common-intersect : {a b : BoundingBox} → Common a b → intersects a b ≡ true
+unfolding intersects
+common-intersect {a} {b} c =
+    four (wraparound.intersectsInterval (a .x) (b .x)) (interval.intersectsInterval (a .y) (b .y)) (dimensionsIntersect (a .z) (b .z)) (dimensionsIntersect (a .m) (b .m))
+    (wrapping.common-intersect (c .x .left) (c .x .right)) (plain.common-intersect (c .y .left) (c .y .right))
+    (dimensions-intersect (a .z) (b .z) (c .z)) (dimensions-intersect (a .m) (b .m) (c .m))
+
+-- ---- what is contained, dimension by dimension
+pub record Parts (a k : BoundingBox) : Type 0 where
+  pub x : wraparound.containsInterval (a .x) (k .x) ≡ true
+  pub y : Contains (a .y) (k .y)
+  pub z : dimensionsContain (a .z) (k .z) ≡ true
+  pub m : dimensionsContain (a .m) (k .m) ≡ true
+
+pub parts : {a k : BoundingBox} → contains a k ≡ true → Parts a k
+unfolding contains
+parts {a} {k} h =
+    let p = wraparound.containsInterval (a .x) (k .x) in
+    let q = interval.containsInterval (a .y) (k .y) in
+    let r = dimensionsContain (a .z) (k .z) in
+    let s = dimensionsContain (a .m) (k .m) in
+    let pqr = and-l (p && q && r) s (holds h) in
+    let pq = and-l (p && q) r pqr in
+    record {
+      x = is-true p (and-l p q pq);
+      y = record { holds = is-true q (and-r p q pq) };
+      z = is-true r (and-r (p && q) r pqr);
+      m = is-true s (and-r (p && q && r) s (holds h));
+    }
+
+pub whole : {a k : BoundingBox} → Parts a k → contains a k ≡ true
+unfolding contains
+whole {a} {k} p =
+    four (wraparound.containsInterval (a .x) (k .x)) (interval.containsInterval (a .y) (k .y)) (dimensionsContain (a .z) (k .z)) (dimensionsContain (a .m) (k .m))
+    (p .x) (p .y .holds) (p .z) (p .m)
+
+-- ---- merging keeps what either contains, where x runs straight
+merge-dimensions-contain : (d e k : Dimension) → (dimensionsContain d k ≡ true) ⊎ (dimensionsContain e k ≡ true) → dimensionsContain (mergeDimensions d e) k ≡ true
+unfolding testKnown joinKnown
+merge-dimensions-contain Missing e k h = refl
+merge-dimensions-contain (Known i) Missing k h = refl
+merge-dimensions-contain (Known i) (Known j) Missing h = refl
+merge-dimensions-contain (Known i) (Known j) (Known l) h =
+    ⊎-elim (λ a. containing.merge-contains-left j (record { holds = a }) .holds) (λ b. containing.merge-contains-right i (record { holds = b }) .holds) h
+
+pub merge-contains : {a b k : BoundingBox} → Doubles a → Doubles b → Straight (a .x) → Straight (b .x) → Le (k .x .inner .lo) (k .x .inner .hi)
+    → Parts a k ⊎ Parts b k → Parts (mergeBox a b) k
+unfolding mergeBox
+merge-contains {a} {b} {k} D E s t l h = record {
+  x = containing.merge-contains (D .x) (E .x) s t l (⊎-elim (λ p. inl (p .x)) (λ p. inr (p .x)) h);
+  y = ⊎-elim (λ p. containing.merge-contains-left (b .y) (p .y)) (λ p. containing.merge-contains-right (a .y) (p .y)) h;
+  z = merge-dimensions-contain (a .z) (b .z) (k .z) (⊎-elim (λ p. inl (p .z)) (λ p. inr (p .z)) h);
+  m = merge-dimensions-contain (a .m) (b .m) (k .m) (⊎-elim (λ p. inl (p .m)) (λ p. inr (p .m)) h);
+}
+
+-- ---- an intersection keeps what both contain, where x runs straight and what is contained runs low to high
+abbrev pub LowToHighWhereKnown : Dimension → Type 0
+LowToHighWhereKnown Missing = Unit {0}
+LowToHighWhereKnown (Known i) = Le (i .lo) (i .hi)
+
+pub record LowToHigh (k : BoundingBox) : Type 0 where
+  pub x : Le (k .x .inner .lo) (k .x .inner .hi)
+  pub y : Le (k .y .lo) (k .y .hi)
+  pub z : LowToHighWhereKnown (k .z)
+  pub m : LowToHighWhereKnown (k .m)
+
+intersect-dimensions-contain : (d e k : Dimension) → LowToHighWhereKnown k → dimensionsContain d k ≡ true → dimensionsContain e k ≡ true → dimensionsContain (intersectDimensions d e) k ≡ true
+unfolding testKnown joinKnown
+intersect-dimensions-contain Missing e k l h g = refl
+intersect-dimensions-contain (Known i) Missing k l h g = refl
+intersect-dimensions-contain (Known i) (Known j) Missing l h g = refl
+intersect-dimensions-contain (Known i) (Known j) (Known o) l h g = containing.intersection-contains l (record { holds = h }) (record { holds = g }) .holds
+
+-- it is never refused
+abbrev pub met : BoundingBox → BoundingBox → BoundingBox
+met a b =
+    xyzm (wraparound.fromInterval (interval.intersection (a .x .inner) (b .x .inner))) (interval.intersection (a .y) (b .y)) (intersectDimensions (a .z) (b .z)) (intersectDimensions (a .m) (b .m))
+
+pub intersection-single : {a b : BoundingBox} → Doubles a → Doubles b → Straight (a .x) → Straight (b .x) → intersection a b ≡ single (met a b)
+unfolding intersection withX
+intersection-single {a} {b} D E s t = rw (containing.intersection-plain (a .x) (b .x) (containing.straight-plain (D .x) s) (containing.straight-plain (E .x) t))
+
+pub intersection-contains : {a b k : BoundingBox} → Doubles a → Doubles b → Straight (a .x) → Straight (b .x) → LowToHigh k → Parts a k → Parts b k → Parts (met a b) k
+intersection-contains {a} {b} {k} D E s t l p q = record {
+  x = containing.x-intersection-contains (D .x) (E .x) s t (l .x) (p .x) (q .x);
+  y = containing.intersection-contains (l .y) (p .y) (q .y);
+  z = intersect-dimensions-contain (a .z) (b .z) (k .z) (l .z) (p .z) (q .z);
+  m = intersect-dimensions-contain (a .m) (b .m) (k .m) (l .m) (p .m) (q .m);
+}
