@@ -40,8 +40,18 @@ fn is_box(missing: [bool; MOST_WORDS], at: usize) -> bool
         && missing[at + 6] == missing[at + 7]
 }
 
+// The box that the first eight words spell.
+pub fn first_box(words: Words) -> BoundingBox {
+    box_at(words, 0)
+}
+
+// The box that the next eight words spell.
+pub fn second_box(words: Words) -> BoundingBox {
+    box_at(words, BOX)
+}
+
 // The box that eight words from a place on spell.
-pub fn box_at(words: Words, at: usize) -> BoundingBox
+fn box_at(words: Words, at: usize) -> BoundingBox
     requires { ⌜ at ≤ 8 ⌝ }
 {
     let ends = words.doubles;

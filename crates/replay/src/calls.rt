@@ -240,18 +240,25 @@ fn make_of_interval(name: Name, v: [f64; 4]) -> Answer {
         Name::New => Answer::Ends(i),
         Name::Empty => Answer::Ends(Interval::empty()),
         Name::Full => Answer::Ends(Interval::full()),
-        Name::IsWraparound => Answer::Bool(i.is_wraparound()),
-        Name::IntersectsValue => Answer::Bool(i.intersects_value(value)),
-        Name::IntersectsInterval => Answer::Bool(i.intersects_interval(other)),
-        Name::ContainsInterval => Answer::Bool(i.contains_interval(other)),
         Name::Width => Answer::Double(i.width()),
         Name::Mid => Answer::Double(i.mid()),
-        Name::IsEmpty => Answer::Bool(i.is_empty()),
-        Name::IsFull => Answer::Bool(i.is_full()),
         Name::MergeInterval => Answer::Ends(i.merge_interval(other)),
         Name::MergeValue => Answer::Ends(i.merge_value(value)),
         Name::ExpandBy => Answer::Ends(i.expand_by(value)),
         Name::Intersection => Answer::Ends(i.intersection(other)),
+        _ => test_of_interval(name, i, value, other),
+    }
+}
+
+// The calls that answer true or false.
+fn test_of_interval(name: Name, i: Interval, value: f64, other: Interval) -> Answer {
+    match name {
+        Name::IsWraparound => Answer::Bool(i.is_wraparound()),
+        Name::IntersectsValue => Answer::Bool(i.intersects_value(value)),
+        Name::IntersectsInterval => Answer::Bool(i.intersects_interval(other)),
+        Name::ContainsInterval => Answer::Bool(i.contains_interval(other)),
+        Name::IsEmpty => Answer::Bool(i.is_empty()),
+        Name::IsFull => Answer::Bool(i.is_full()),
         _ => Answer::Unknown,
     }
 }
@@ -265,14 +272,8 @@ fn make_of_wraparound_interval(name: Name, v: [f64; 4]) -> Answer {
         Name::New => ends(x),
         Name::Empty => ends(WraparoundInterval::empty()),
         Name::Full => ends(WraparoundInterval::full()),
-        Name::IsWraparound => Answer::Bool(x.is_wraparound()),
-        Name::IntersectsValue => Answer::Bool(x.intersects_value(value)),
-        Name::IntersectsInterval => Answer::Bool(x.intersects_interval(other)),
-        Name::ContainsInterval => Answer::Bool(x.contains_interval(other)),
         Name::Width => Answer::Double(x.width()),
         Name::Mid => Answer::Double(x.mid()),
-        Name::IsEmpty => Answer::Bool(x.is_empty()),
-        Name::IsFull => Answer::Bool(x.is_full()),
         Name::MergeInterval => ends(x.merge_interval(other)),
         Name::MergeValue => ends(x.merge_value(value)),
         Name::ExpandBy => ends(x.expand_by(value)),
@@ -280,6 +281,24 @@ fn make_of_wraparound_interval(name: Name, v: [f64; 4]) -> Answer {
         Name::Split => Answer::Split(x.split()),
         Name::FromInterval => ends(WraparoundInterval::from_interval(Interval::new(v[0], v[1]))),
         Name::TryIntoInterval => converted(x.try_into_interval()),
+        _ => test_of_wraparound_interval(name, x, value, other),
+    }
+}
+
+// The calls that answer true or false.
+fn test_of_wraparound_interval(
+    name: Name,
+    x: WraparoundInterval,
+    value: f64,
+    other: WraparoundInterval,
+) -> Answer {
+    match name {
+        Name::IsWraparound => Answer::Bool(x.is_wraparound()),
+        Name::IntersectsValue => Answer::Bool(x.intersects_value(value)),
+        Name::IntersectsInterval => Answer::Bool(x.intersects_interval(other)),
+        Name::ContainsInterval => Answer::Bool(x.contains_interval(other)),
+        Name::IsEmpty => Answer::Bool(x.is_empty()),
+        Name::IsFull => Answer::Bool(x.is_full()),
         _ => Answer::Unknown,
     }
 }

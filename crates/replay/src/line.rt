@@ -5,7 +5,8 @@ use crate::answer::put_answer;
 use crate::boxes::BOX;
 use crate::boxes::MOST_INTERVALS;
 use crate::boxes::are_boxes;
-use crate::boxes::box_at;
+use crate::boxes::first_box;
+use crate::boxes::second_box;
 use crate::calls::Call;
 use crate::calls::Takes;
 use crate::calls::call_named;
@@ -145,7 +146,7 @@ fn answer_to_doubles(call: Call, words: Words) -> Answer {
 fn answer_to_boxes(call: Call, words: Words) -> Answer {
     if are_boxes(words) {
         let distance = words.doubles[BOX];
-        make_of_boxes(call, box_at(words, 0), box_at(words, BOX), distance)
+        make_of_boxes(call, first_box(words), second_box(words), distance)
     } else {
         Answer::Unknown
     }
