@@ -1,0 +1,80 @@
+-- What a fold of records is where it is not refused, and where it is refused. Assumes nothing.
+use mathlib.Core.Logic.{_⊎_, inl, inr}
+use mathlib.Core.Path.{_≡_, refl, sym, subst, ap, _∙_}
+use mathlib.Core.Bool.{Bool, true, false, _||_}
+use mathlib.Core.List.{List, [], _∷_}
+use Prim.Native.Nat.{ℕ}
+use native.Mathlib.Omega.{arith}
+use Rattle.sedona_expr.specs.Statistics.{totalsOverflow, countsOverflow, mergeParts, mergeValue, first, step, foldFrom, fold, refused}
+use Rattle.sedona_expr.specs.Error as error
+use Rattle.sedona_expr.specs.declared.statistics.GeoStatistics.{GeoStatistics}
+use Rattle.sedona_expr.specs.declared.statistics.Folded.{Folded}
+
+abbrev pub overflow : GeoStatistics → GeoStatistics → Bool
+overflow a b = totalsOverflow a b || countsOverflow a b
+
+-- The records of a list merged one by one, whatever their totals.
+abbrev pub mergeAll : GeoStatistics → List GeoStatistics → GeoStatistics
+mergeAll a [] = a
+mergeAll a (r ∷ rs) = mergeAll (mergeParts a r) rs
+
+-- No step leaves the range.
+abbrev pub Fits : GeoStatistics → List GeoStatistics → Type 0
+Fits a [] = Unit {0}
+Fits a (r ∷ rs) = (overflow a r ≡ false) × Fits (mergeParts a r) rs
+
+-- ---- one step
+step-refused : (f : Folded) (r : GeoStatistics) → f .number ≡ error.overflow → step f r ≡ f
+unfolding step
+step-refused f r e = rw e
+
+stays : (f : Folded) (rs : List GeoStatistics) → f .number ≡ error.overflow → foldFrom f rs .number ≡ error.overflow
+unfolding foldFrom
+stays f [] e = e
+stays f (r ∷ rs) e = ap (λ (g : Folded). foldFrom g rs .number) (step-refused f r e) ∙ stays f rs e
+
+step-merged : (a r : GeoStatistics) → overflow a r ≡ false → step (first a) r ≡ first (mergeParts a r)
+unfolding step mergeValue
+step-merged a r e = rw e
+
+step-over : (a r : GeoStatistics) → overflow a r ≡ true → step (first a) r .number ≡ error.overflow
+unfolding step mergeValue
+step-over a r e = rw e
+
+-- ---- the whole list
+pub three-not-zero : _≡_ {A = ℕ} error.overflow 0 → ⊥
+three-not-zero e = omega arith
+
+-- a fold that is not refused has every step in range
+pub fits-of-fold : (a : GeoStatistics) (rs : List GeoStatistics) → foldFrom (first a) rs .number ≡ 0 → Fits a rs
+unfolding foldFrom
+fits-of-fold a [] e = tt
+fits-of-fold a (r ∷ rs) e = go (overflow a r) refl (λ h. fits-of-fold (mergeParts a r) rs h)
+  where
+    go : (b : Bool) → overflow a r ≡ b → (foldFrom (first (mergeParts a r)) rs .number ≡ 0 → Fits (mergeParts a r) rs) → (overflow a r ≡ false) × Fits (mergeParts a r) rs
+    go true o k = absurd (three-not-zero (sym (stays (step (first a) r) rs (step-over a r o)) ∙ e))
+    go false o k = (o, k (subst (λ (f : Folded). foldFrom f rs .number ≡ 0) (step-merged a r o) e))
+
+-- and with every step in range it is the records merged one by one
+pub fold-of-fits : (a : GeoStatistics) (rs : List GeoStatistics) → Fits a rs → foldFrom (first a) rs ≡ first (mergeAll a rs)
+unfolding foldFrom
+fold-of-fits a [] h = refl
+fold-of-fits a (r ∷ rs) h = ap (λ (f : Folded). foldFrom f rs) (step-merged a r (h .0)) ∙ fold-of-fits (mergeParts a r) rs (h .1)
+
+-- the number is 0 or 3
+abbrev Numbered : Folded → List GeoStatistics → Type 0
+Numbered f rs = (foldFrom f rs .number ≡ 0) ⊎ (foldFrom f rs .number ≡ error.overflow)
+
+pub fold-number : (a : GeoStatistics) (rs : List GeoStatistics) → Numbered (first a) rs
+unfolding foldFrom
+fold-number a [] = inl refl
+fold-number a (r ∷ rs) = go (overflow a r) refl (fold-number (mergeParts a r) rs)
+  where
+    go : (b : Bool) → overflow a r ≡ b → Numbered (first (mergeParts a r)) rs → Numbered (step (first a) r) rs
+    go true o k = inr (stays (step (first a) r) rs (step-over a r o))
+    go false o k = subst (λ (f : Folded). Numbered f rs) (sym (step-merged a r o)) k
+
+-- a list that is not empty is folded from its first record
+pub fold-first : (r : GeoStatistics) (rs : List GeoStatistics) → fold (r ∷ rs) ≡ foldFrom (first r) rs
+unfolding foldFrom step
+fold-first r rs = refl

@@ -1,0 +1,6 @@
+pub mod Folding
+pub mod Folds
+pub mod Theorems
+pub mod UpdateOut
+pub mod While
+pub mod Whole
