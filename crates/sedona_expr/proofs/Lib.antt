@@ -1,5 +1,6 @@
 pub mod Folding
 pub mod Folds
+pub mod Instances
 pub mod Theorems
 pub mod UpdateOut
 pub mod While

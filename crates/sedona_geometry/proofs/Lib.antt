@@ -2,6 +2,7 @@ pub mod Accepts
 pub mod Bits
 pub mod Boxes
 pub mod Contains
+pub mod Instances
 pub mod Kind
 pub mod Marked
 pub mod MinMax

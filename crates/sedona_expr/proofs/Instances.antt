@@ -1,0 +1,73 @@
+-- The hypotheses of the theorems can be met: by two records with boxes and totals, which fit; and a total that leaves its range is refused.
+-- Assumes nothing.
+use mathlib.Core.Path.{_≡_, refl}
+use mathlib.Core.List.{List, [], _∷_, map}
+use lib.IntN.{ℤ, pos}
+use Rattle.sedona_geometry.proofs.Instances as boxes
+use Rattle.sedona_expr.specs.Statistics.{leaves, most, sumLeaves, totalsOverflow, countsOverflow, mergeValue, step, foldFrom, fold, All, DoublesWhereKnown, NoLess, Which, points, total, PrefixSumsFit, Tree, leaf, node, mergeTree, mergeAnswers, AllLeaves, empty}
+use Rattle.sedona_expr.specs.declared.statistics.Bbox as Bbox
+use Rattle.sedona_expr.specs.declared.statistics.Bbox.{Bbox}
+use Rattle.sedona_expr.specs.declared.statistics.Total as Total
+use Rattle.sedona_expr.specs.declared.statistics.Total.{Total}
+use Rattle.sedona_expr.specs.declared.statistics.GeoStatistics.{GeoStatistics}
+use Rattle.sedona_expr.proofs.Theorems as theorems
+
+-- No geometries but in a box, and some points.
+abbrev pub reading : Bbox → ℤ → GeoStatistics
+reading c n = record {
+  bbox = c;
+  «geometry_types» = empty .«geometry_types»;
+  «total_geometries» = empty .«total_geometries»;
+  «total_size_bytes» = empty .«total_size_bytes»;
+  «total_points» = Total.Known n;
+  «puntal_count» = empty .«puntal_count»;
+  «lineal_count» = empty .«lineal_count»;
+  «polygonal_count» = empty .«polygonal_count»;
+  «collection_count» = empty .«collection_count»;
+  «total_envelope_width» = empty .«total_envelope_width»;
+  «total_envelope_height» = empty .«total_envelope_height»;
+}
+
+abbrev pub first : GeoStatistics
+first = reading (Bbox.Known boxes.a) (pos 3)
+
+abbrev pub second : GeoStatistics
+second = reading (Bbox.Known boxes.b) (pos 4)
+
+abbrev pub records : List GeoStatistics
+records = first ∷ second ∷ []
+
+fits : fold records .number ≡ 0
+unfolding leaves sumLeaves totalsOverflow countsOverflow mergeValue step foldFrom
+fits = refl
+
+doubles : All (λ r. DoublesWhereKnown (r .bbox)) records
+doubles = (boxes.a-doubles, (boxes.b-doubles, tt))
+
+pub no-less : All (λ r. NoLess (fold records .rec .bbox) (r .bbox)) records
+no-less = theorems.no-box-shrinks records doubles fits
+
+pub points-are-seven : total points (fold records .rec) ≡ Total.Known (pos 7)
+points-are-seven = theorems.totals-are-sums points first (second ∷ []) fits
+
+pub points-fit : (w : Which) → PrefixSumsFit (total w first) (map (total w) (second ∷ []))
+points-fit = theorems.not-refused-fit first (second ∷ []) fits
+
+abbrev pub tree : Tree
+tree = node (leaf first) (leaf second)
+
+tree-fits : mergeTree tree .number ≡ 0
+unfolding leaves sumLeaves totalsOverflow countsOverflow mergeValue mergeAnswers
+tree-fits = refl
+
+pub no-less-in-tree : AllLeaves (λ r. NoLess (mergeTree tree .rec .bbox) (r .bbox)) tree
+no-less-in-tree = theorems.no-box-shrinks-in-trees tree (boxes.a-doubles, boxes.b-doubles) tree-fits
+
+-- 2^63 − 1 plus 0 fits, plus 1 does not.
+pub at-the-limit : fold (reading Bbox.Missing most ∷ reading Bbox.Missing (pos 0) ∷ []) .number ≡ 0
+unfolding leaves sumLeaves totalsOverflow countsOverflow mergeValue step foldFrom
+at-the-limit = refl
+
+pub over-the-limit : fold (reading Bbox.Missing most ∷ reading Bbox.Missing (pos 1) ∷ []) .number ≡ 3
+unfolding leaves sumLeaves totalsOverflow countsOverflow mergeValue step foldFrom
+over-the-limit = refl

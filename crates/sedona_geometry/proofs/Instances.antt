@@ -1,0 +1,108 @@
+-- The hypotheses of the laws can be met: by a wrapped x and one that crosses its end, and by two boxes around a third. Assumes nothing.
+use mathlib.Core.Path.{_≡_, refl}
+use mathlib.Core.Bool.{true}
+use mathlib.Core.Logic.{inl, inr}
+use Prim.Native.Nat.{ℕ}
+use lib.IntN.{pos}
+use lib.Ieee.{Float, binary64, fits, sub, lt, le, eq, isNan, round, ofInt}
+use Rattle.sedona_geometry.specs.Interval as interval
+use Rattle.sedona_geometry.specs.WraparoundInterval as wraparound
+use Rattle.sedona_geometry.specs.BoundingBox.{xyzm, testKnown, intersects, mergeBox, Doubles, NoLess, Common}
+use Rattle.sedona_geometry.specs.declared.interval.WraparoundInterval.{WraparoundInterval}
+use Rattle.sedona_geometry.specs.declared.bounding_box.Dimension.the-variants.{Missing, Known}
+use Rattle.sedona_geometry.specs.declared.bounding_box.BoundingBox.{BoundingBox}
+use Rattle.sedona_geometry.proofs.Wrapping as wrapping
+use Rattle.sedona_geometry.proofs.Contains.{Straight, ordered}
+use Rattle.sedona_geometry.proofs.Boxes as boxes
+use Rattle.sedona_geometry.proofs.Boxes.{Parts, LowToHigh, met}
+
+abbrev plus : ℕ → Float
+plus n = ofInt binary64 (pos n)
+
+-- ---- x
+abbrev wrapped : WraparoundInterval
+wrapped = wraparound.new (plus 170) (plus 10)
+
+abbrev crossing : WraparoundInterval
+crossing = wraparound.new (plus 5) (plus 20)
+
+wraps : wraparound.isWraparound wrapped ≡ true
+unfolding sub lt eq isNan round ofInt interval.isEmpty wraparound.isWraparound
+wraps = refl
+
+wrapped-doubles : interval.Doubles (wrapped .inner)
+unfolding fits round ofInt
+wrapped-doubles = record { lo = tt; hi = tt }
+
+crossing-doubles : interval.Doubles (crossing .inner)
+unfolding fits round ofInt
+crossing-doubles = record { lo = tt; hi = tt }
+
+pub common-x : wraparound.Common wrapped crossing
+unfolding fits sub lt le eq isNan round ofInt interval.intersectsValue interval.isEmpty wraparound.isWraparound wraparound.split wraparound.intersectsValue
+common-x = record { number = plus 7; double = tt; left = record { holds = refl }; right = record { holds = refl } }
+
+pub they-intersect : wraparound.intersectsInterval wrapped crossing ≡ true
+they-intersect = wrapping.common-intersect (common-x .left) (common-x .right)
+
+pub merged-accepts : wraparound.Accepts (wraparound.mergeInterval wrapped crossing) (common-x .number)
+merged-accepts = wrapping.merge-accepts wrapped-doubles crossing-doubles (inr (common-x .right))
+
+-- ---- boxes: a and b, of which one knows z and the other m, around k
+abbrev pub a : BoundingBox
+a = xyzm (wraparound.new (plus 0) (plus 10)) (interval.new (plus 0) (plus 10)) (Known (interval.new (plus 0) (plus 10))) Missing
+
+abbrev pub b : BoundingBox
+b = xyzm (wraparound.new (plus 1) (plus 20)) (interval.new (plus 0) (plus 20)) Missing (Known (interval.new (plus 1) (plus 4)))
+
+abbrev k : BoundingBox
+k = xyzm (wraparound.new (plus 2) (plus 3)) (interval.new (plus 2) (plus 3)) (Known (interval.new (plus 2) (plus 3))) (Known (interval.new (plus 2) (plus 3)))
+
+pub a-doubles : Doubles a
+unfolding fits round ofInt
+a-doubles = record { x = record { lo = tt; hi = tt }; y = record { lo = tt; hi = tt }; z = record { lo = tt; hi = tt }; m = tt }
+
+pub b-doubles : Doubles b
+unfolding fits round ofInt
+b-doubles = record { x = record { lo = tt; hi = tt }; y = record { lo = tt; hi = tt }; z = tt; m = record { lo = tt; hi = tt } }
+
+a-straight : Straight (a .x)
+unfolding lt le eq round ofInt
+a-straight = ordered (record { test = tt })
+
+b-straight : Straight (b .x)
+unfolding lt le eq round ofInt
+b-straight = ordered (record { test = tt })
+
+k-low-to-high : LowToHigh k
+unfolding lt le eq round ofInt
+k-low-to-high = record { x = record { test = tt }; y = record { test = tt }; z = record { test = tt }; m = record { test = tt } }
+
+a-contains : Parts a k
+unfolding sub lt le eq isNan round ofInt interval.containsInterval interval.isEmpty wraparound.isWraparound wraparound.split wraparound.containsInterval testKnown
+a-contains = record { x = refl; y = record { holds = refl }; z = refl; m = refl }
+
+b-contains : Parts b k
+unfolding sub lt le eq isNan round ofInt interval.containsInterval interval.isEmpty wraparound.isWraparound wraparound.split wraparound.containsInterval testKnown
+b-contains = record { x = refl; y = record { holds = refl }; z = refl; m = refl }
+
+common : Common a b
+unfolding fits sub lt le eq isNan round ofInt interval.intersectsValue interval.isEmpty wraparound.isWraparound wraparound.split wraparound.intersectsValue
+common = record {
+  x = record { number = plus 2; double = tt; left = record { holds = refl }; right = record { holds = refl } };
+  y = record { number = plus 2; double = tt; left = record { holds = refl }; right = record { holds = refl } };
+  z = tt;
+  m = tt;
+}
+
+pub boxes-intersect : intersects a b ≡ true
+boxes-intersect = boxes.common-intersect common
+
+pub merged-no-less : NoLess (mergeBox a b) a
+merged-no-less = boxes.merge-no-less-left a-doubles b-doubles
+
+pub merged-contains : Parts (mergeBox a b) k
+merged-contains = boxes.merge-contains a-doubles b-doubles a-straight b-straight (k-low-to-high .x) (inl a-contains)
+
+pub met-contains : Parts (met a b) k
+met-contains = boxes.intersection-contains a-doubles b-doubles a-straight b-straight k-low-to-high a-contains b-contains
