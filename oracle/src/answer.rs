@@ -1,9 +1,11 @@
 //! What a call answers, as text and as the words of a digest.
 
-use crate::operands::MISSING;
+use crate::operands::{Kind, MISSING};
+use crate::records::{EXTENTS, TOTALS};
 use crate::text;
 use oracle::bounding_box::BoundingBox;
 use oracle::interval::{Interval, IntervalTrait, WraparoundInterval};
+use oracle::statistics::GeoStatistics;
 use oracle::types::GeometryTypeAndDimensionsSet;
 use std::fmt;
 
@@ -15,9 +17,11 @@ enum Part {
     Double(f64),
     /// A count, or a type set by its bits.
     Integer(u64),
-    /// All of a missing z or m.
-    Missing,
-    /// Comes first in a z or m that is known; has no text.
+    /// A total of a record.
+    Total(i64),
+    /// All of a missing z or m, or of a missing part of a record: so many words.
+    Missing(usize),
+    /// Comes first in what could have been missing; has no text.
     Known,
     /// Comes first in an answer that could have been refused; has no text.
     NotRefused,
@@ -31,7 +35,8 @@ impl Part {
             Part::Bool(value) => Some(value.to_string()),
             Part::Double(value) => Some(text::write(*value)),
             Part::Integer(value) => Some(value.to_string()),
-            Part::Missing => Some(format!("{MISSING} {MISSING}")),
+            Part::Total(value) => Some(value.to_string()),
+            Part::Missing(words) => Some(vec![MISSING; *words].join(" ")),
             Part::Known | Part::NotRefused => None,
             Part::Refused(number) => Some(format!("refused {number}")),
         }
@@ -45,7 +50,8 @@ impl Part {
             Part::Double(0.0) => 0,
             Part::Double(value) => value.to_bits(),
             Part::Integer(value) => *value,
-            Part::Missing | Part::NotRefused => 0,
+            Part::Total(value) => value.cast_unsigned(),
+            Part::Missing(_) | Part::NotRefused => 0,
             Part::Known => 1,
             Part::Refused(number) => *number,
         }
@@ -61,7 +67,7 @@ impl Answer {
         }
     }
 
-    fn joined<const N: usize>(answers: [Answer; N]) -> Answer {
+    fn joined(answers: impl IntoIterator<Item = Answer>) -> Answer {
         Answer(answers.into_iter().flat_map(|answer| answer.0).collect())
     }
 
@@ -120,9 +126,14 @@ impl From<BoundingBox> for Answer {
 }
 
 fn dimension(dimension: &Option<Interval>) -> Answer {
-    match dimension {
-        Some(interval) => Answer::joined([Answer(vec![Part::Known]), ends(interval)]),
-        None => Answer(vec![Part::Missing]),
+    known(*dimension, 2)
+}
+
+/// A part that can be missing, which is so many words then.
+fn known<T: Into<Answer>>(part: Option<T>, words: usize) -> Answer {
+    match part {
+        Some(value) => Answer::joined([Answer(vec![Part::Known]), value.into()]),
+        None => Answer(vec![Part::Missing(words)]),
     }
 }
 
@@ -141,6 +152,23 @@ impl From<usize> for Answer {
 impl From<GeometryTypeAndDimensionsSet> for Answer {
     fn from(value: GeometryTypeAndDimensionsSet) -> Self {
         value.bits().into()
+    }
+}
+
+impl From<i64> for Answer {
+    fn from(value: i64) -> Self {
+        Answer(vec![Part::Total(value)])
+    }
+}
+
+impl From<GeoStatistics> for Answer {
+    fn from(value: GeoStatistics) -> Self {
+        let bounds = known(value.bbox().cloned(), Kind::Box.width());
+        let types = known(value.geometry_types().cloned(), 1);
+        let totals = TOTALS.map(|total| known(total(&value), 1));
+        let extents = EXTENTS.map(|extent| known(extent(&value), 1));
+        let parts = [bounds, types].into_iter().chain(totals).chain(extents);
+        Answer::joined(parts)
     }
 }
 

@@ -2,8 +2,10 @@
 
 use crate::answer::{Answer, Digest};
 use crate::operands::{Kind, Lists, Operand, Operands, read};
+use crate::records::{LEAVES_RANGE, merged};
 use oracle::bounding_box::BoundingBox;
 use oracle::interval::{Interval, IntervalTrait, WraparoundInterval};
+use oracle::statistics::GeoStatistics;
 use oracle::types::GeometryTypeAndDimensionsSet as Set;
 
 /// The number where the intersection of two x has two parts.
@@ -76,6 +78,7 @@ pub fn table() -> Vec<Call> {
     calls.extend(calls_of_float());
     calls.extend(calls_of_bounding_box());
     calls.extend(calls_of_set());
+    calls.extend(calls_of_statistics());
     calls
 }
 
@@ -181,6 +184,19 @@ fn calls_of_set() -> Vec<Call> {
         Call::new(of, "clear", |[mut set]: [Set; 1]| {
             set.clear();
             set
+        }),
+    ]
+}
+
+fn calls_of_statistics() -> Vec<Call> {
+    let of = "GeoStatistics";
+    vec![
+        Call::new(of, "unspecified", |[]: [f64; 0]| {
+            GeoStatistics::unspecified()
+        }),
+        Call::new(of, "empty", |[]: [f64; 0]| GeoStatistics::empty()),
+        Call::new(of, "merge_value", |[record, other]: [GeoStatistics; 2]| {
+            Answer::or_refused(merged(&record, &other).ok_or(()), LEAVES_RANGE)
         }),
     ]
 }

@@ -1,6 +1,7 @@
 //! Writes the case file of the replay program.
 
 use crate::calls::Call;
+use crate::operands::Kind;
 use crate::text::{write_line, write_operand, write_operands};
 
 const TINY: f64 = f64::from_bits(1);
@@ -44,13 +45,15 @@ const NAMED: [(&str, f64); 7] = [
 
 const HEADER: &str = "\
 # The cases of the replay program, as `oracle cases` writes them.
-# First each call with every tuple of operands from the three lists, then single cases.
+# First each call with every tuple of operands from the three lists, but for calls with records, which
+# are in no list; then single cases.
 ";
 
-/// The case file: a sweep of every call, then the cases of singles.txt.
+/// The case file: a sweep of every call but those of records, then the cases of singles.txt.
 pub fn cases(calls: &[Call]) -> String {
     let sweeps: String = calls
         .iter()
+        .filter(|call| !call.operands.contains(&Kind::Record))
         .map(|call| format!("sweep {}\n", call.name))
         .collect();
     [HEADER, &list_lines(), &sweeps, &singles()].concat()

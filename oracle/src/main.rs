@@ -6,6 +6,7 @@ mod calls;
 mod cases;
 mod operands;
 mod random;
+mod records;
 mod text;
 
 use std::io::{self, Write};

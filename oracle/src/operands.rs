@@ -1,30 +1,33 @@
-//! What calls take, doubles, boxes and type sets: how a line spells them, and all that sweeps go
-//! over.
+//! What calls take, doubles, boxes, type sets and records: how a line spells them, and all that
+//! sweeps go over.
 
-use crate::text;
+use crate::{records, text};
 use oracle::bounding_box::BoundingBox;
 use oracle::interval::{Interval, IntervalTrait, WraparoundInterval};
+use oracle::statistics::GeoStatistics;
 use oracle::types::GeometryTypeAndDimensionsSet as Set;
 
-/// The word for each end of a missing z or m.
+/// The word for each end of a missing z or m, and for each word of a missing part of a record.
 pub const MISSING: &str = "-";
 
 /// How many doubles, how many intervals and how many type sets a sweep may go over.
-const MOST_VALUES: usize = 32;
+const MOST_VALUES: usize = 40;
 const MOST_INTERVALS: usize = 6;
-const MOST_SETS: usize = 32;
+const MOST_SETS: usize = 40;
 
-#[derive(Clone, Copy)]
+#[derive(Clone, Copy, PartialEq)]
 pub enum Kind {
     Double,
     Box,
     Set,
+    Record,
 }
 
 pub enum Operand {
     Double(f64),
     Box(BoundingBox),
     Set(Set),
+    Record(GeoStatistics),
 }
 
 impl Kind {
@@ -33,6 +36,7 @@ impl Kind {
         match self {
             Kind::Double | Kind::Set => 1,
             Kind::Box => 8,
+            Kind::Record => 18,
         }
     }
 
@@ -41,6 +45,7 @@ impl Kind {
             (Kind::Double, [word]) => text::read(word).map(Operand::Double),
             (Kind::Set, [word]) => text::read_set(word).map(|bits| set(&bits)),
             (Kind::Box, words) => read_box(words).map(Operand::Box),
+            (Kind::Record, words) => records::read(words).map(Operand::Record),
             _ => None,
         }
     }
@@ -59,7 +64,7 @@ pub fn read(kinds: &[Kind], words: &[&str]) -> Option<Vec<Operand>> {
 }
 
 /// `XLO XHI YLO YHI ZLO ZHI MLO MHI`.
-fn read_box(words: &[&str]) -> Option<BoundingBox> {
+pub fn read_box(words: &[&str]) -> Option<BoundingBox> {
     let ends: Vec<_> = words.chunks(2).map(read_ends).collect::<Option<_>>()?;
     match ends[..] {
         [Some(x), Some(y), z, m] => Some(boxed(x, y, z, m)),
@@ -122,6 +127,8 @@ impl Lists {
             Kind::Double => self.values.iter().copied().map(Operand::Double).collect(),
             Kind::Box => self.boxes(),
             Kind::Set => self.sets.iter().map(set).collect(),
+            // No sweep goes over records.
+            Kind::Record => Vec::new(),
         }
     }
 
@@ -206,4 +213,5 @@ taken! {
     f64: Double;
     BoundingBox: Box;
     Set: Set;
+    GeoStatistics: Record;
 }

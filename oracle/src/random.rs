@@ -2,6 +2,7 @@
 
 use crate::calls::Call;
 use crate::operands::{Kind, MISSING};
+use crate::records::TOTALS;
 use crate::text::{write_line, write_operands};
 
 /// `count` cases, the same ones for the same seed. Doubles of note are drawn from `values`.
@@ -39,7 +40,8 @@ impl Random<'_> {
     /// The words of operands of these kinds.
     fn words(&mut self, kinds: &[Kind]) -> Vec<String> {
         let count = kinds.iter().map(|kind| kind.width()).sum();
-        let mut words = write_operands(&self.doubles(count));
+        let first = kinds.first().map_or(0, |kind| kind.width());
+        let mut words = write_operands(&self.doubles(count, first.max(Kind::Box.width())));
         let mut rest = &mut words[..];
         for kind in kinds {
             let (own, others) = rest.split_at_mut(kind.width());
@@ -47,15 +49,16 @@ impl Random<'_> {
                 Kind::Double => {}
                 Kind::Box => own[4..].chunks_exact_mut(2).for_each(|z| self.lose(z)),
                 Kind::Set => own[0] = self.set().to_string(),
+                Kind::Record => self.shape_record(own),
             }
             rest = others;
         }
         words
     }
 
-    /// Doubles, two and two shaped as intervals. Of a second box half of the intervals are those
-    /// of the first.
-    fn doubles(&mut self, count: usize) -> Vec<f64> {
+    /// Doubles, two and two shaped as intervals. Of a second operand, which comes behind a `first`
+    /// of so many words, half of the intervals are those of the first.
+    fn doubles(&mut self, count: usize, first: usize) -> Vec<f64> {
         let mut doubles = Vec::new();
         for _ in 0..count {
             doubles.push(self.double(&doubles));
@@ -63,10 +66,9 @@ impl Random<'_> {
         for ends in doubles.chunks_exact_mut(2) {
             self.shape(ends);
         }
-        for at in (Kind::Box.width()..count - count % 2).step_by(2) {
+        for at in (first..count - count % 2).step_by(2) {
             if self.below(2) == 0 {
-                let first = at - Kind::Box.width();
-                doubles.copy_within(first..first + 2, at);
+                doubles.copy_within(at - first..at - first + 2, at);
             }
         }
         doubles
@@ -107,6 +109,40 @@ impl Random<'_> {
     fn lose(&mut self, ends: &mut [String]) {
         if self.below(3) == 0 {
             ends.fill(MISSING.to_string());
+        }
+    }
+
+    /// Makes doubles the words of a record: its z and m can be missing, as can each of its parts. A
+    /// third of the records have totals at the ends of their range.
+    fn shape_record(&mut self, words: &mut [String]) {
+        let (bounds, rest) = words.split_at_mut(Kind::Box.width());
+        bounds[4..].chunks_exact_mut(2).for_each(|z| self.lose(z));
+        if self.below(6) == 0 {
+            bounds.fill(MISSING.to_string());
+        }
+        rest[0] = self.set().to_string();
+        let at_ends = self.below(3) == 0;
+        for word in &mut rest[1..=TOTALS.len()] {
+            *word = self.total(at_ends).to_string();
+        }
+        for word in rest {
+            if self.below(8) == 0 {
+                *word = MISSING.to_string();
+            }
+        }
+    }
+
+    /// A total: a small one, or one near the ends of its range.
+    fn total(&mut self, at_ends: bool) -> i64 {
+        let small = self.below(2001) as i64 - 1000;
+        match self.below(24) {
+            0..12 if at_ends => [-1, 0, 1][self.below(3)],
+            12 if at_ends => i64::MAX,
+            13 if at_ends => i64::MAX - 1,
+            14 if at_ends => i64::MIN,
+            15 if at_ends => i64::MIN + 1,
+            16 if at_ends => self.bits().cast_signed(),
+            _ => small,
         }
     }
 

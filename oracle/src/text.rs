@@ -1,6 +1,6 @@
 //! Doubles as the case language reads and writes them: `nan`, `inf`, `-inf`; an integer `N`, or a
 //! quotient `N/D` rounded once, with or without `-`; `x` and the 16 hex digits of the bits. And type
-//! sets as it reads them: integers of 32 bits.
+//! sets and totals as it reads them: integers of 32 bits, and of 64 bits with or without `-`.
 
 /// The largest integer of a case. Up to here every integer is a double.
 const LARGEST: u64 = 1 << 53;
@@ -43,6 +43,15 @@ fn read_integer(digits: &str) -> Option<f64> {
 /// The type set that a word spells, by its bits.
 pub fn read_set(word: &str) -> Option<u32> {
     read_digits(word)?.try_into().ok()
+}
+
+/// The total that a word spells.
+pub fn read_total(word: &str) -> Option<i64> {
+    let total = match word.strip_prefix('-') {
+        Some(magnitude) => -i128::from(read_digits(magnitude)?),
+        None => i128::from(read_digits(word)?),
+    };
+    total.try_into().ok()
 }
 
 fn read_digits(digits: &str) -> Option<u64> {
@@ -132,6 +141,25 @@ mod tests {
         assert_eq!(read_set("4294967295"), Some(u32::MAX));
         for word in ["", "-", "-1", "+1", "1/1", "inf", "4294967296"] {
             assert_eq!(read_set(word), None, "{word}");
+        }
+    }
+
+    #[test]
+    fn totals() {
+        let totals = [("0", 0), ("-0", 0), ("-9223372036854775808", i64::MIN)];
+        for (word, total) in totals {
+            assert_eq!(read_total(word), Some(total));
+        }
+        for word in [
+            "",
+            "-",
+            "--1",
+            "+1",
+            "1/1",
+            "9223372036854775808",
+            "-9223372036854775809",
+        ] {
+            assert_eq!(read_total(word), None, "{word}");
         }
     }
 

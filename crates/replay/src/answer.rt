@@ -1,10 +1,18 @@
-// The answers of calls: their text, and their words in the digest of a sweep.
+// The answers of calls: their text, and their words in a digest.
 use crate::output::Buffer;
 use crate::output::put;
 use crate::output::put_all;
 use crate::output::put_decimal;
 use crate::write::bits;
 use crate::write::put_double;
+use crate::write::put_total;
+use crate::write::total_bits;
+use sedona_expr::statistics::Bbox;
+use sedona_expr::statistics::Extent;
+use sedona_expr::statistics::GeoStatistics;
+use sedona_expr::statistics::GeometryTypes;
+use sedona_expr::statistics::Merged;
+use sedona_expr::statistics::Total;
 use sedona_geometry::bounding_box::BoundingBox;
 use sedona_geometry::bounding_box::Dimension;
 use sedona_geometry::bounding_box::Intersected;
@@ -26,9 +34,11 @@ pub enum Answer {
     Ends(Interval),
     Split(Pieces),
     Box(BoundingBox),
+    Statistics(GeoStatistics),
     // Of a call that can be refused: what it gives, or the number of the refusal.
     Accepted(Interval),
     AcceptedBox(BoundingBox),
+    AcceptedStatistics(GeoStatistics),
     Refused(u32),
 }
 
@@ -72,6 +82,16 @@ pub fn box_intersected(intersection: Intersected) -> Answer {
     }
 }
 
+// A record, where the merge is one.
+pub fn of_merged(out: Merged) -> Answer {
+    let rec = out.rec;
+    if out.number == 0 {
+        Answer::AcceptedStatistics(rec)
+    } else {
+        Answer::Refused(out.number)
+    }
+}
+
 // Puts the text of an answer.
 pub fn put_answer(out: &mut Buffer, filled: usize, answer: Answer) -> usize {
     match answer {
@@ -86,8 +106,10 @@ pub fn put_answer(out: &mut Buffer, filled: usize, answer: Answer) -> usize {
             put_ends(out, at, pieces.right)
         }
         Answer::Box(b) => put_box(out, filled, b),
+        Answer::Statistics(s) => put_statistics(out, filled, s),
         Answer::Accepted(i) => put_ends(out, filled, i),
         Answer::AcceptedBox(b) => put_box(out, filled, b),
+        Answer::AcceptedStatistics(s) => put_statistics(out, filled, s),
         Answer::Refused(number) => {
             let at = put_all(out, filled, b"refused ");
             put_decimal(out, at, number as u64)
@@ -133,6 +155,88 @@ fn put_dimension(out: &mut Buffer, filled: usize, dimension: Dimension) -> usize
     }
 }
 
+// Puts the parts of a record.
+fn put_statistics(out: &mut Buffer, filled: usize, s: GeoStatistics) -> usize {
+    let bbox = s.bbox;
+    let types = s.geometry_types;
+    let at = put_bbox(out, filled, bbox);
+    let at = put_types(out, at, types);
+    let at = put_totals(out, at, s);
+    let at = put_counts(out, at, s);
+    put_extents(out, at, s)
+}
+
+// Puts the totals of geometries, bytes and points.
+fn put_totals(out: &mut Buffer, filled: usize, s: GeoStatistics) -> usize {
+    let geometries = s.total_geometries;
+    let size_bytes = s.total_size_bytes;
+    let points = s.total_points;
+    let at = put_known_total(out, filled, geometries);
+    let at = put_known_total(out, at, size_bytes);
+    put_known_total(out, at, points)
+}
+
+// Puts the counts of each type.
+fn put_counts(out: &mut Buffer, filled: usize, s: GeoStatistics) -> usize {
+    let puntal = s.puntal_count;
+    let lineal = s.lineal_count;
+    let polygonal = s.polygonal_count;
+    let collection = s.collection_count;
+    let at = put_known_total(out, filled, puntal);
+    let at = put_known_total(out, at, lineal);
+    let at = put_known_total(out, at, polygonal);
+    put_known_total(out, at, collection)
+}
+
+// Puts the two extents.
+fn put_extents(out: &mut Buffer, filled: usize, s: GeoStatistics) -> usize {
+    let width = s.total_envelope_width;
+    let height = s.total_envelope_height;
+    let at = put_extent(out, filled, width);
+    put_extent(out, at, height)
+}
+
+// Puts a box, or as many `-` as it has ends where it is missing.
+fn put_bbox(out: &mut Buffer, filled: usize, bbox: Bbox) -> usize {
+    match bbox {
+        Bbox::Missing => put_all(out, filled, b"- - - - - - - -"),
+        Bbox::Known(b) => put_box(out, filled, b),
+    }
+}
+
+// Puts a space and a type set, or `-` where it is missing.
+fn put_types(out: &mut Buffer, filled: usize, types: GeometryTypes) -> usize {
+    match types {
+        GeometryTypes::Missing => put_all(out, filled, b" -"),
+        GeometryTypes::Known(set) => {
+            let at = put(out, filled, b' ');
+            put_decimal(out, at, set.bits() as u64)
+        }
+    }
+}
+
+// Puts a space and a total, or `-` where it is missing.
+fn put_known_total(out: &mut Buffer, filled: usize, total: Total) -> usize {
+    match total {
+        Total::Missing => put_all(out, filled, b" -"),
+        Total::Known(n) => {
+            let at = put(out, filled, b' ');
+            put_total(out, at, n)
+        }
+    }
+}
+
+// Puts a space and an extent, or `-` where it is missing.
+fn put_extent(out: &mut Buffer, filled: usize, extent: Extent) -> usize {
+    match extent {
+        Extent::Missing => put_all(out, filled, b" -"),
+        Extent::Known(x) => {
+            let at = put(out, filled, b' ');
+            put_double(out, at, x)
+        }
+    }
+}
+
 // A digest of answers. Each answer is a few words to it.
 pub struct Digest {
     pub value: u32,
@@ -154,9 +258,83 @@ impl Digest {
             Answer::Ends(i) => self.with_ends(i),
             Answer::Split(pieces) => self.with_ends(pieces.left).with_ends(pieces.right),
             Answer::Box(b) => self.with_box(b),
+            Answer::Statistics(s) => self.with_statistics(s),
             Answer::Accepted(i) => self.with_word(0).with_ends(i),
             Answer::AcceptedBox(b) => self.with_word(0).with_box(b),
+            Answer::AcceptedStatistics(s) => self.with_word(0).with_statistics(s),
             Answer::Refused(number) => self.with_word(number as u64),
+        }
+    }
+
+    // With a record more: its parts.
+    fn with_statistics(self, s: GeoStatistics) -> Digest {
+        let bbox = s.bbox;
+        let types = s.geometry_types;
+        self.with_bbox(bbox)
+            .with_types(types)
+            .with_totals(s)
+            .with_counts(s)
+            .with_extents(s)
+    }
+
+    // With the totals of a record more.
+    fn with_totals(self, s: GeoStatistics) -> Digest {
+        let geometries = s.total_geometries;
+        let size_bytes = s.total_size_bytes;
+        let points = s.total_points;
+        self.with_total(geometries)
+            .with_total(size_bytes)
+            .with_total(points)
+    }
+
+    // With the counts of a record more.
+    fn with_counts(self, s: GeoStatistics) -> Digest {
+        let puntal = s.puntal_count;
+        let lineal = s.lineal_count;
+        let polygonal = s.polygonal_count;
+        let collection = s.collection_count;
+        self.with_total(puntal)
+            .with_total(lineal)
+            .with_total(polygonal)
+            .with_total(collection)
+    }
+
+    // With the extents of a record more.
+    fn with_extents(self, s: GeoStatistics) -> Digest {
+        let width = s.total_envelope_width;
+        let height = s.total_envelope_height;
+        self.with_extent(width).with_extent(height)
+    }
+
+    // With a box of a record more: whether it is known, and then the box.
+    fn with_bbox(self, bbox: Bbox) -> Digest {
+        match bbox {
+            Bbox::Missing => self.with_word(0),
+            Bbox::Known(b) => self.with_word(1).with_box(b),
+        }
+    }
+
+    // With a type set of a record more.
+    fn with_types(self, types: GeometryTypes) -> Digest {
+        match types {
+            GeometryTypes::Missing => self.with_word(0),
+            GeometryTypes::Known(set) => self.with_word(1).with_word(set.bits() as u64),
+        }
+    }
+
+    // With a total more.
+    fn with_total(self, total: Total) -> Digest {
+        match total {
+            Total::Missing => self.with_word(0),
+            Total::Known(n) => self.with_word(1).with_word(total_bits(n)),
+        }
+    }
+
+    // With an extent more.
+    fn with_extent(self, extent: Extent) -> Digest {
+        match extent {
+            Extent::Missing => self.with_word(0),
+            Extent::Known(x) => self.with_word(1).with_double(x),
         }
     }
 

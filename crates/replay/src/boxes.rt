@@ -16,6 +16,9 @@ pub const BOX: usize = 8;
 // How many words two boxes are.
 pub const TWO_BOXES: usize = 2 * BOX;
 
+// Before which of the words a box can start.
+const PLACES: usize = MOST_WORDS - BOX + 1;
+
 // The most intervals that boxes are made of.
 pub const MOST_INTERVALS: usize = 6;
 
@@ -31,29 +34,18 @@ pub fn are_boxes(words: Words) -> bool {
     is_box(missing, BOX)
 }
 
-// Whether eight words from a place on can be a box: of a missing z or m both ends are.
-fn is_box(missing: [bool; MOST_WORDS], at: usize) -> bool
-    requires { ⌜ at ≤ 8 ⌝ }
-{
+// Whether eight words from a place on can be a box: of a missing z or m both ends are. (The
+// remainder changes nothing, here and below.)
+pub fn is_box(missing: [bool; MOST_WORDS], place: usize) -> bool {
+    let at = place % PLACES;
     !(missing[at] || missing[at + 1] || missing[at + 2] || missing[at + 3])
         && missing[at + 4] == missing[at + 5]
         && missing[at + 6] == missing[at + 7]
 }
 
-// The box that the first eight words spell.
-pub fn first_box(words: Words) -> BoundingBox {
-    box_at(words, 0)
-}
-
-// The box that the next eight words spell.
-pub fn second_box(words: Words) -> BoundingBox {
-    box_at(words, BOX)
-}
-
 // The box that eight words from a place on spell.
-fn box_at(words: Words, at: usize) -> BoundingBox
-    requires { ⌜ at ≤ 8 ⌝ }
-{
+pub fn box_at(words: Words, place: usize) -> BoundingBox {
+    let at = place % PLACES;
     let ends = words.doubles;
     BoundingBox::xyzm(
         WraparoundInterval::new(ends[at], ends[at + 1]),
@@ -65,7 +57,7 @@ fn box_at(words: Words, at: usize) -> BoundingBox
 
 // The z or m that two words from a place on spell.
 fn dimension_at(words: Words, at: usize) -> Dimension
-    requires { ⌜ at ≤ 14 ⌝ }
+    requires { ⌜ at ≤ 38 ⌝ }
 {
     if words.is_missing[at] {
         return Dimension::Missing;

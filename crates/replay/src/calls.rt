@@ -6,11 +6,14 @@ use crate::answer::box_intersected;
 use crate::answer::converted;
 use crate::answer::ends;
 use crate::answer::intersected;
+use crate::answer::of_merged;
 use crate::answer::of_set;
 use crate::boxes::BOX;
 use crate::boxes::TWO_BOXES;
+use crate::records::TWO_RECORDS;
 use bytes::scan::find;
 use check::same;
+use sedona_expr::statistics::GeoStatistics;
 use sedona_geometry::bounding_box::BoundingBox;
 use sedona_geometry::float;
 use sedona_geometry::interval::Interval;
@@ -25,6 +28,7 @@ pub enum Owner {
     Float,
     BoundingBox,
     GeometryTypeAndDimensionsSet,
+    GeoStatistics,
 }
 
 // The rest of its name.
@@ -63,6 +67,7 @@ pub enum Name {
     Merge,
     Size,
     Clear,
+    Unspecified,
 }
 
 // A row of the tables below.
@@ -79,6 +84,8 @@ pub enum Takes {
     // One box or two, or a box and a double.
     Boxes,
     Sets,
+    // Two records or none.
+    Records,
 }
 
 impl Call {
@@ -110,6 +117,7 @@ impl Call {
         let owner = self.owner;
         match owner {
             Owner::GeometryTypeAndDimensionsSet => Takes::Sets,
+            Owner::GeoStatistics => Takes::Records,
             _ => if self.operands < BOX {
                 Takes::Doubles
             } else {
@@ -150,6 +158,9 @@ pub fn call_named(word: &[u8]) -> Call {
     }
     if same(owner, b"GeometryTypeAndDimensionsSet::") {
         return call_of_set(name);
+    }
+    if same(owner, b"GeoStatistics::") {
+        return call_of_statistics(name);
     }
     Call::unknown(Owner::Unknown)
 }
@@ -216,6 +227,14 @@ fn call_of_set(word: &[u8]) -> Call {
         .row(word, b"is_empty", Name::IsEmpty, 1)
         .row(word, b"size", Name::Size, 1)
         .row(word, b"clear", Name::Clear, 1)
+}
+
+// The calls of `GeoStatistics`.
+fn call_of_statistics(word: &[u8]) -> Call {
+    Call::unknown(Owner::GeoStatistics)
+        .row(word, b"unspecified", Name::Unspecified, 0)
+        .row(word, b"empty", Name::Empty, 0)
+        .row(word, b"merge_value", Name::MergeValue, TWO_RECORDS)
 }
 
 // Makes a call that takes doubles.
@@ -364,6 +383,17 @@ pub fn make_of_sets(call: Call, bits: u32, other_bits: u32) -> Answer {
         Name::IsEmpty => Answer::Bool(set.is_empty()),
         Name::Size => Answer::Number(set.size() as u64),
         Name::Clear => of_set(set.clear()),
+        _ => Answer::Unknown,
+    }
+}
+
+// Makes a call that takes records, or none.
+pub fn make_of_records(call: Call, s: GeoStatistics, other: GeoStatistics) -> Answer {
+    let name = call.name;
+    match name {
+        Name::Unspecified => Answer::Statistics(GeoStatistics::unspecified()),
+        Name::Empty => Answer::Statistics(GeoStatistics::empty()),
+        Name::MergeValue => of_merged(s.merge_value(other)),
         _ => Answer::Unknown,
     }
 }

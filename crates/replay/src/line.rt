@@ -5,19 +5,22 @@ use crate::answer::put_answer;
 use crate::boxes::BOX;
 use crate::boxes::MOST_INTERVALS;
 use crate::boxes::are_boxes;
-use crate::boxes::first_box;
-use crate::boxes::second_box;
+use crate::boxes::box_at;
 use crate::calls::Call;
 use crate::calls::Takes;
 use crate::calls::call_named;
 use crate::calls::make;
 use crate::calls::make_of_boxes;
+use crate::calls::make_of_records;
 use crate::calls::make_of_sets;
 use crate::output::Buffer;
 use crate::output::put;
 use crate::output::put_all;
 use crate::output::put_decimal;
 use crate::output::put_hex;
+use crate::records::are_records;
+use crate::records::first_record;
+use crate::records::second_record;
 use crate::sweep::Swept;
 use crate::sweep::sweep;
 use crate::words::Lists;
@@ -25,6 +28,7 @@ use crate::words::Words;
 use crate::words::read_words;
 use bytes::scan::find;
 use check::same;
+use sedona_expr::statistics::GeoStatistics;
 
 // The room for a line. One that fills it is too long, and no case.
 pub const SIZE: usize = 1024;
@@ -129,6 +133,7 @@ fn answer_to(call: Call, words: Words) -> Answer {
         Takes::Doubles => answer_to_doubles(call, words),
         Takes::Boxes => answer_to_boxes(call, words),
         Takes::Sets => answer_to_sets(call, words),
+        Takes::Records => answer_to_records(call, words),
     }
 }
 
@@ -146,7 +151,7 @@ fn answer_to_doubles(call: Call, words: Words) -> Answer {
 fn answer_to_boxes(call: Call, words: Words) -> Answer {
     if are_boxes(words) {
         let distance = words.doubles[BOX];
-        make_of_boxes(call, first_box(words), second_box(words), distance)
+        make_of_boxes(call, box_at(words, 0), box_at(words, BOX), distance)
     } else {
         Answer::Unknown
     }
@@ -156,6 +161,19 @@ fn answer_to_boxes(call: Call, words: Words) -> Answer {
 fn answer_to_sets(call: Call, words: Words) -> Answer {
     if words.are_sets {
         make_of_sets(call, words.sets[0], words.sets[1])
+    } else {
+        Answer::Unknown
+    }
+}
+
+// What a case answers that takes two records, or none.
+fn answer_to_records(call: Call, words: Words) -> Answer {
+    if words.count == 0 {
+        let nothing = GeoStatistics::unspecified();
+        return make_of_records(call, nothing, nothing);
+    }
+    if are_records(words) {
+        make_of_records(call, first_record(words), second_record(words))
     } else {
         Answer::Unknown
     }

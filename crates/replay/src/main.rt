@@ -7,6 +7,7 @@ mod digits;
 mod line;
 mod output;
 mod read;
+mod records;
 mod sweep;
 mod words;
 mod write;

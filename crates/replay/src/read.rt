@@ -7,6 +7,9 @@ use check::same;
 // The largest integer of a case. Up to here every integer is a double.
 pub const LARGEST: u64 = 9007199254740992;
 
+// The magnitude of the least total.
+const LEAST_MAGNITUDE: u64 = 0x8000_0000_0000_0000;
+
 // What a word spells, read as a double.
 pub enum Reading {
     Double(f64),
@@ -16,6 +19,12 @@ pub enum Reading {
 // What a word spells, read as a type set.
 pub enum TypeSet {
     Bits(u32),
+    Bad,
+}
+
+// What a word spells, read as a total.
+pub enum WholeTotal {
+    Total(i64),
     Bad,
 }
 
@@ -124,6 +133,38 @@ pub fn read_set(word: &[u8]) -> TypeSet {
         return TypeSet::Bad;
     }
     TypeSet::Bits(n as u32)
+}
+
+// The total that a word spells: an integer of 64 bits, with or without `-`.
+pub fn read_total(word: &[u8]) -> WholeTotal {
+    if word.len() == 0 {
+        return WholeTotal::Bad;
+    }
+    if word[0] == b'-' {
+        return below_zero(read_digits(&word[1..], 10));
+    }
+    let Number::Whole(n) = read_digits(word, 10) else {
+        return WholeTotal::Bad;
+    };
+    if n >= LEAST_MAGNITUDE {
+        return WholeTotal::Bad;
+    }
+    WholeTotal::Total(n as i64)
+}
+
+// The total of a magnitude behind a `-`: all bits of the magnitude less 1 are turned, so that the
+// least total, which has no opposite, is no case of its own.
+fn below_zero(magnitude: Number) -> WholeTotal {
+    let Number::Whole(n) = magnitude else {
+        return WholeTotal::Bad;
+    };
+    if n > LEAST_MAGNITUDE {
+        return WholeTotal::Bad;
+    }
+    if n == 0 {
+        return WholeTotal::Total(0);
+    }
+    WholeTotal::Total(!((n - 1) as i64))
 }
 
 // The number that one or more digits of a base spell. It is bad where it might not fit.

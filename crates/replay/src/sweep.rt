@@ -9,12 +9,14 @@ use crate::calls::Call;
 use crate::calls::Takes;
 use crate::calls::make;
 use crate::calls::make_of_boxes;
+use crate::calls::make_of_records;
 use crate::calls::make_of_sets;
 use crate::digits::last_digit;
 use crate::words::Doubles;
 use crate::words::Lists;
 use crate::words::MOST_WORDS;
 use crate::words::Sets;
+use sedona_expr::statistics::GeoStatistics;
 
 // How many calls were made, and the digest of their answers.
 pub struct Swept {
@@ -73,6 +75,7 @@ fn turn_at(number: usize, call: Call, lists: Lists) -> Turn {
         Takes::Doubles => turn_of_doubles(number, call, values),
         Takes::Boxes => turn_of_boxes(number, call, ends, values),
         Takes::Sets => turn_of_sets(number, call, sets),
+        Takes::Records => turn_of_records(number, call),
     }
 }
 
@@ -118,6 +121,15 @@ fn turn_of_sets(number: usize, call: Call, sets: Sets) -> Turn {
     let first_at = first.place % MOST_WORDS;
     let answer = make_of_sets(call, sets.list[first_at], sets.list[at]);
     Turn::new(answer, first.rest)
+}
+
+// There are no operands. No sweep goes over records: with them it makes no call.
+fn turn_of_records(number: usize, call: Call) -> Turn {
+    if call.operands > 0 {
+        return Turn::new(Answer::Unknown, usize::MAX);
+    }
+    let nothing = GeoStatistics::unspecified();
+    Turn::new(make_of_records(call, nothing, nothing), number)
 }
 
 // Doubles, and what is left of a number whose last digits are their places.

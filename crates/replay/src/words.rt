@@ -1,26 +1,39 @@
 // The words of a line, and the lists that sweeps go over.
 use crate::read::Reading;
 use crate::read::TypeSet;
+use crate::read::WholeTotal;
 use crate::read::read_double;
 use crate::read::read_set;
+use crate::read::read_total;
 use bytes::scan::find;
 use check::same;
 
 // The most words that a line can have behind its first.
-pub const MOST_WORDS: usize = 32;
+pub const MOST_WORDS: usize = 40;
+
+// How many words a record is: a box, a type set, totals from TOTALS on and extents from EXTENTS on.
+pub const RECORD: usize = 18;
+
+pub const TYPES: usize = 8;
+
+pub const TOTALS: usize = 9;
+
+pub const EXTENTS: usize = 16;
 
 // The words behind the first of a line, each as all that it can be.
 pub struct Words {
     pub doubles: [f64; MOST_WORDS],
     pub sets: [u32; MOST_WORDS],
+    pub totals: [i64; MOST_WORDS],
     // Whether a word is `-`, the mark of what is missing.
     pub is_missing: [bool; MOST_WORDS],
     pub count: usize,
-    // Whether each word is a double; a double or a mark; a type set. None of it is where there is
-    // a word too many.
+    // Whether each word is a double; a double or a mark; a type set; what its place in a record
+    // asks, or a mark. None of it is where there is a word too many.
     pub are_doubles: bool,
     pub are_ends: bool,
     pub are_sets: bool,
+    pub are_parts: bool,
 }
 
 impl Words {
@@ -29,11 +42,13 @@ impl Words {
         Words {
             doubles: [0.0; MOST_WORDS],
             sets: [0; MOST_WORDS],
+            totals: [0; MOST_WORDS],
             is_missing: [false; MOST_WORDS],
             count: 0,
             are_doubles: true,
             are_ends: true,
             are_sets: true,
+            are_parts: true,
         }
     }
 
@@ -46,21 +61,31 @@ impl Words {
             words.are_doubles = false;
             words.are_ends = false;
             words.are_sets = false;
+            words.are_parts = false;
             return words;
         }
         words.count = at + 1;
         words.is_missing[at] = is_missing;
+        let place = at % RECORD;
+        let mut is_part = is_missing;
         if let TypeSet::Bits(bits) = read_set(word) {
             words.sets[at] = bits;
+            is_part = is_part || place == TYPES;
         } else {
             words.are_sets = false;
         }
         if let Reading::Double(x) = read_double(word) {
             words.doubles[at] = x;
+            is_part = is_part || place < TYPES || place >= EXTENTS;
         } else {
             words.are_doubles = false;
             words.are_ends = words.are_ends && is_missing;
         }
+        if let WholeTotal::Total(n) = read_total(word) {
+            words.totals[at] = n;
+            is_part = is_part || (place >= TOTALS && place < EXTENTS);
+        }
+        words.are_parts = words.are_parts && is_part;
         words
     }
 

@@ -92,3 +92,29 @@ pub fn bits(x: f64) -> u64 {
         f64::to_bits(x)
     }
 }
+
+// Puts a total.
+pub fn put_total(out: &mut Buffer, filled: usize, n: i64) -> usize {
+    if n < 0 {
+        let at = put(out, filled, b'-');
+        let magnitude = std::num::wrapping_sub_u64(0, total_bits(n));
+        return put_decimal(out, at, magnitude);
+    }
+    put_decimal(out, filled, total_bits(n))
+}
+
+// The bits of a total: below 0, those of its opposite less 1, all turned.
+pub fn total_bits(n: i64) -> u64 {
+    if n < 0 {
+        return u64::MAX - not_below_zero(!n);
+    }
+    not_below_zero(n)
+}
+
+// A total that is not below 0; else 0.
+fn not_below_zero(n: i64) -> u64 {
+    if n < 0 {
+        return 0;
+    }
+    n as u64
+}
