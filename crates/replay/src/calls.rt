@@ -1,6 +1,4 @@
 // The calls of the case language: their names, what each takes, and what each answers.
-ghost use mathlib.Core.Path.{_≡_};
-ghost use Rattle.sedona_geometry.specs.BoundingBox.{mergeBox};
 use crate::answer::Answer;
 use crate::answer::box_intersected;
 use crate::answer::converted;
@@ -10,6 +8,8 @@ use crate::answer::of_merged;
 use crate::answer::of_set;
 use crate::boxes::BOX;
 use crate::boxes::TWO_BOXES;
+use crate::lent::merged;
+use crate::lent::updated;
 use crate::records::TWO_RECORDS;
 use bytes::scan::find;
 use check::same;
@@ -234,6 +234,7 @@ fn call_of_statistics(word: &[u8]) -> Call {
     Call::unknown(Owner::GeoStatistics)
         .row(word, b"unspecified", Name::Unspecified, 0)
         .row(word, b"empty", Name::Empty, 0)
+        .row(word, b"merge", Name::Merge, TWO_RECORDS)
         .row(word, b"merge_value", Name::MergeValue, TWO_RECORDS)
 }
 
@@ -361,15 +362,6 @@ pub fn make_of_boxes(call: Call, b: BoundingBox, other: BoundingBox, distance: f
     }
 }
 
-// What a box holds after `update_box`, to which it is lent.
-fn updated(a: BoundingBox, b: BoundingBox) -> BoundingBox
-    ensures { λ r. ⌜ r ≡ mergeBox a b ⌝ }
-{
-    let mut lent = a;
-    lent.update_box(b);
-    lent
-}
-
 // Makes a call that takes type sets, by their bits.
 pub fn make_of_sets(call: Call, bits: u32, other_bits: u32) -> Answer {
     let name = call.name;
@@ -393,6 +385,7 @@ pub fn make_of_records(call: Call, s: GeoStatistics, other: GeoStatistics) -> An
     match name {
         Name::Unspecified => Answer::Statistics(GeoStatistics::unspecified()),
         Name::Empty => Answer::Statistics(GeoStatistics::empty()),
+        Name::Merge => of_merged(merged(s, other)),
         Name::MergeValue => of_merged(s.merge_value(other)),
         _ => Answer::Unknown,
     }

@@ -4,6 +4,7 @@ mod answer;
 mod boxes;
 mod calls;
 mod digits;
+mod lent;
 mod line;
 mod output;
 mod read;
