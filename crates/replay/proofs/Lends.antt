@@ -21,7 +21,7 @@ use base.Fml.{GName, Lft, ftrue, fsep, fat, flft, fres, flent}
 use prog.Wp.{Heap, Env, Calls, Loops, WpFn, Tables}
 use ghost.Atoms.{Atoms, sem}
 use contract.Monad.{fact, factI}
-use types.Kit.{Given, Item, ‵, raw, _⊛_, some, given, later, ⋆, _$_, _∵_, !, qed, by, move, keep, use0, use1, use2, use3, split, join, pick, learn, rewrite, check, fsplit, fjoin, fpick, fpack, suffices, frame, await, updating, now as at-once, show, done}
+use types.Kit.{Given, Item, ‵, raw, _⊛_, some, given, later, _$_, _∵_, !, qed, by, move, keep, use0, use1, use2, use3, split, join, pick, learn, rewrite, check, fsplit, fjoin, fpick, fpack, suffices, frame, await, updating, now as at-once, show, done}
 use types.Run.{Opd, Rv, look, init, forget, stop, from, load, addr, and-then, no-more, of-opd, assigns, land, returns, enter, alloc1, alloc0, params1, pass1, pass0, free1, free0}
 use types.SemTy.{Body}
 use types.Tokens.{lft-new, lft-end}

@@ -1,2 +1,3 @@
 pub mod Lends
+pub mod LendsFirst
 pub mod MoreKinds

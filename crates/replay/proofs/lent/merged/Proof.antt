@@ -9,8 +9,6 @@ use contract.Running.{givenOf, tables, tablesOf}
 use denote.Struct.Laws as LL
 use denote.Triple.Spec.{tripleOf}
 use denote.Triple.Table.{entered, cited}
-use Rattle.sedona_expr.specs.declared.statistics.GeoStatistics.{GeoStatistics}
-use Rattle.sedona_expr.specs.declared.statistics.Merged.{Merged}
 use Rattle.sedona_expr.specs.Statistics as statistics
 use Rattle.sedona_expr.proofs.statistics.GeoStatistics as T
 use Rattle.sedona_expr.proofs.statistics.GeoStatistics.Laws as T′
