@@ -1,7 +1,7 @@
 //! What a call answers, as text and as the words of a digest.
 
 use crate::operands::{Kind, MISSING};
-use crate::records::{EXTENTS, TOTALS};
+use crate::records::{EXTENTS, LEAVES_RANGE, TOTALS};
 use crate::text;
 use oracle::bounding_box::BoundingBox;
 use oracle::interval::{Interval, IntervalTrait, WraparoundInterval};
@@ -15,7 +15,7 @@ pub struct Answer(Vec<Part>);
 enum Part {
     Bool(bool),
     Double(f64),
-    /// A count, or a type set by its bits.
+    /// A count, a type set by its bits, or the number before a record.
     Integer(u64),
     /// A total of a record.
     Total(i64),
@@ -65,6 +65,14 @@ impl Answer {
             Ok(value) => Answer::joined([Answer(vec![Part::NotRefused]), value.into()]),
             Err(_) => Answer(vec![Part::Refused(number)]),
         }
+    }
+
+    /// The number 0 and a record; where there is none, since a total leaves its range, the number
+    /// for that and what then stands for it.
+    pub fn numbered(record: Option<GeoStatistics>, otherwise: GeoStatistics) -> Answer {
+        let number = if record.is_some() { 0 } else { LEAVES_RANGE };
+        let record = record.unwrap_or(otherwise);
+        Answer::joined([Answer(vec![Part::Integer(number)]), record.into()])
     }
 
     fn joined(answers: impl IntoIterator<Item = Answer>) -> Answer {

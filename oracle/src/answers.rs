@@ -1,9 +1,11 @@
 //! Answers a case file line by line. `CALL V V ..` is one case, `sweep CALL` makes the call with
 //! every tuple of operands from the last lines `values V V ..`, `intervals LO HI ..` and
-//! `sets S S ..`. Comments and empty lines are copied.
+//! `sets S S ..`, and `folds SEED COUNT` folds drawn lists of records. Comments and empty lines are
+//! copied.
 
-use crate::calls::Call;
+use crate::calls::{Call, fold_lists};
 use crate::operands::Lists;
+use crate::text::read_set;
 
 /// The case file with the answers behind its lines.
 pub fn answers(calls: &[Call], cases: &str) -> String {
@@ -44,6 +46,7 @@ impl Reader<'_> {
             ["intervals", ref words @ ..] => return copied(self.lists.set_intervals(words)),
             ["sets", ref words @ ..] => return copied(self.lists.set_sets(words)),
             ["sweep", name] => self.sweep(name),
+            ["folds", seed, count] => folds(seed, count),
             [name, ref operands @ ..] => self.single(name, operands),
             [] => None,
         };
@@ -63,6 +66,11 @@ impl Reader<'_> {
     fn call(&self, name: &str) -> Option<&Call> {
         self.calls.iter().find(|call| call.name == name)
     }
+}
+
+fn folds(seed: &str, count: &str) -> Option<String> {
+    let (seed, count) = (read_set(seed)?, read_set(count)?);
+    Some(format!("{count} {}", fold_lists(seed, count)))
 }
 
 /// A line with a list that was taken, or was none.

@@ -1,8 +1,9 @@
 //! The table of calls: the names of the case language, and the lent Rust that answers them.
 
 use crate::answer::{Answer, Digest};
+use crate::draws;
 use crate::operands::{Kind, Lists, Operand, Operands, read};
-use crate::records::{LEAVES_RANGE, merged};
+use crate::records::{folded, merged};
 use oracle::bounding_box::BoundingBox;
 use oracle::interval::{Interval, IntervalTrait, WraparoundInterval};
 use oracle::statistics::GeoStatistics;
@@ -192,13 +193,47 @@ fn calls_of_statistics() -> Vec<Call> {
     let of = "GeoStatistics";
     vec![
         Call::new(of, "unspecified", |[]: [f64; 0]| {
-            GeoStatistics::unspecified()
+            unrefused(GeoStatistics::unspecified())
         }),
-        Call::new(of, "empty", |[]: [f64; 0]| GeoStatistics::empty()),
+        Call::new(
+            of,
+            "empty",
+            |[]: [f64; 0]| unrefused(GeoStatistics::empty()),
+        ),
         Call::new(of, "merge_value", |[record, other]: [GeoStatistics; 2]| {
-            Answer::or_refused(merged(&record, &other).ok_or(()), LEAVES_RANGE)
+            Answer::numbered(merged(&record, &other), GeoStatistics::unspecified())
         }),
+        Call::new(of, "merge", |[record, other]: [GeoStatistics; 2]| {
+            Answer::numbered(merged(&record, &other), record)
+        }),
+        Call::new(of, "fold", |list: [GeoStatistics; 2]| fold(&list)),
+        Call::new(of, "fold_one", |list: [GeoStatistics; 1]| fold(&list)),
+        Call::new(of, "fold_none", |list: [GeoStatistics; 0]| fold(&list)),
+        Call::new(of, "fold_drawn", |[seed]: [u32; 1]| fold_drawn(seed)),
     ]
+}
+
+fn unrefused(record: GeoStatistics) -> Answer {
+    Answer::numbered(Some(record), GeoStatistics::unspecified())
+}
+
+fn fold(list: &[GeoStatistics]) -> Answer {
+    Answer::numbered(folded(list), GeoStatistics::unspecified())
+}
+
+/// The fold of the list drawn from a seed.
+fn fold_drawn(seed: u32) -> Answer {
+    fold(&draws::list(seed))
+}
+
+/// The digest of the folds of so many lists, the first drawn from a seed and each other from the
+/// next.
+pub fn fold_lists(seed: u32, count: u32) -> Digest {
+    let mut digest = Digest::default();
+    for i in 0..count {
+        digest.add(&fold_drawn(seed.wrapping_add(i)));
+    }
+    digest
 }
 
 /// A call of an interval.

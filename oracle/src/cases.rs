@@ -1,7 +1,6 @@
 //! Writes the case file of the replay program.
 
 use crate::calls::Call;
-use crate::operands::Kind;
 use crate::text::{write_line, write_operand, write_operands};
 
 const TINY: f64 = f64::from_bits(1);
@@ -32,6 +31,9 @@ const SETS: [u32; 22] = [
     0x100_0000, 0x8000_0000, 0xff00_0000, 0x5555_5555, 0xaaaa_aaaa, u32::MAX - 1, u32::MAX,
 ];
 
+/// Lists of records to fold: the seed of the first, and how many.
+const FOLDS: [[u32; 2]; 3] = [[1, 10_000], [0x4000_0000, 10_000], [u32::MAX, 2]];
+
 /// The names that singles.txt has for doubles.
 const NAMED: [(&str, f64); 7] = [
     ("MAX", f64::MAX),
@@ -46,17 +48,19 @@ const NAMED: [(&str, f64); 7] = [
 const HEADER: &str = "\
 # The cases of the replay program, as `oracle cases` writes them.
 # First each call with every tuple of operands from the three lists, but for calls with records, which
-# are in no list; then single cases.
+# are in no list; then folds of drawn lists of records; then single cases.
 ";
 
-/// The case file: a sweep of every call but those of records, then the cases of singles.txt.
+/// The case file: a sweep of every call whose operands are listed, the folds, and the cases of
+/// singles.txt.
 pub fn cases(calls: &[Call]) -> String {
     let sweeps: String = calls
         .iter()
-        .filter(|call| !call.operands.contains(&Kind::Record))
+        .filter(|call| call.operands.iter().all(|kind| kind.is_listed()))
         .map(|call| format!("sweep {}\n", call.name))
         .collect();
-    [HEADER, &list_lines(), &sweeps, &singles()].concat()
+    let folds = FOLDS.map(|numbers| write_line("folds", &numbers.map(|n| n.to_string())));
+    [HEADER, &list_lines(), &sweeps, &folds.concat(), &singles()].concat()
 }
 
 /// The lines that set what sweeps go over.

@@ -4,6 +4,7 @@ mod answer;
 mod answers;
 mod calls;
 mod cases;
+mod draws;
 mod operands;
 mod random;
 mod records;

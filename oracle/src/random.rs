@@ -50,6 +50,7 @@ impl Random<'_> {
                 Kind::Box => own[4..].chunks_exact_mut(2).for_each(|z| self.lose(z)),
                 Kind::Set => own[0] = self.set().to_string(),
                 Kind::Record => self.shape_record(own),
+                Kind::Seed => own[0] = (self.bits() as u32).to_string(),
             }
             rest = others;
         }

@@ -1,10 +1,10 @@
-//! Records of statistics: how a line spells them, and how the Rust merges them.
+//! Records of statistics: how a line spells them, and how the Rust merges and folds them.
 
 use crate::operands::{Kind, MISSING, read_box};
 use crate::text;
 use oracle::statistics::GeoStatistics;
 use oracle::types::GeometryTypeAndDimensionsSet as Set;
-use std::panic;
+use std::panic::{self, UnwindSafe};
 
 /// The number where a total leaves its range.
 pub const LEAVES_RANGE: u64 = 3;
@@ -20,7 +20,7 @@ pub const TOTALS: [fn(&GeoStatistics) -> Option<i64>; 7] = [
     GeoStatistics::collection_count,
 ];
 
-const WITH_TOTAL: [fn(GeoStatistics, i64) -> GeoStatistics; 7] = [
+pub const WITH_TOTAL: [fn(GeoStatistics, i64) -> GeoStatistics; 7] = [
     GeoStatistics::with_total_geometries,
     GeoStatistics::with_total_size_bytes,
     GeoStatistics::with_total_points,
@@ -36,7 +36,7 @@ pub const EXTENTS: [fn(&GeoStatistics) -> Option<f64>; 2] = [
     GeoStatistics::total_envelope_height,
 ];
 
-const WITH_EXTENT: [fn(GeoStatistics, f64) -> GeoStatistics; 2] = [
+pub const WITH_EXTENT: [fn(GeoStatistics, f64) -> GeoStatistics; 2] = [
     GeoStatistics::with_total_envelope_width,
     GeoStatistics::with_total_envelope_height,
 ];
@@ -74,16 +74,32 @@ fn with_known<T>(
     (words.len() == with.len()).then_some(record)
 }
 
-/// A record with another merged in; none where a total leaves its range, at which the Rust panics.
-/// The merge is of a copy: what is half merged by then is dropped.
+/// A record with another merged in. The merge is of a copy: where it fails, the record stays.
 pub fn merged(record: &GeoStatistics, other: &GeoStatistics) -> Option<GeoStatistics> {
-    let hook = panic::take_hook();
-    panic::set_hook(Box::new(|_| {}));
-    let result = panic::catch_unwind(|| {
+    in_range(|| {
         let mut merged = record.clone();
         merged.merge(other);
         merged
-    });
+    })
+}
+
+/// The records of a list in one: the first, with each next merged in.
+pub fn folded(list: &[GeoStatistics]) -> Option<GeoStatistics> {
+    let Some((first, rest)) = list.split_first() else {
+        return Some(GeoStatistics::unspecified());
+    };
+    in_range(|| {
+        let mut folded = first.clone();
+        rest.iter().for_each(|next| folded.merge(next));
+        folded
+    })
+}
+
+/// What merges give; none where a total leaves its range, at which the Rust panics.
+fn in_range<T>(merges: impl FnOnce() -> T + UnwindSafe) -> Option<T> {
+    let hook = panic::take_hook();
+    panic::set_hook(Box::new(|_| {}));
+    let result = panic::catch_unwind(merges);
     panic::set_hook(hook);
     match result {
         Ok(merged) => Some(merged),

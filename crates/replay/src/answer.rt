@@ -34,11 +34,9 @@ pub enum Answer {
     Ends(Interval),
     Split(Pieces),
     Box(BoundingBox),
-    Statistics(GeoStatistics),
     // Of a call that can be refused: what it gives, or the number of the refusal.
     Accepted(Interval),
     AcceptedBox(BoundingBox),
-    AcceptedStatistics(GeoStatistics),
     Refused(u32),
 }
 
@@ -82,16 +80,6 @@ pub fn box_intersected(intersection: Intersected) -> Answer {
     }
 }
 
-// A record, where the merge is one.
-pub fn of_merged(out: Merged) -> Answer {
-    let rec = out.rec;
-    if out.number == 0 {
-        Answer::AcceptedStatistics(rec)
-    } else {
-        Answer::Refused(out.number)
-    }
-}
-
 // Puts the text of an answer.
 pub fn put_answer(out: &mut Buffer, filled: usize, answer: Answer) -> usize {
     match answer {
@@ -106,10 +94,8 @@ pub fn put_answer(out: &mut Buffer, filled: usize, answer: Answer) -> usize {
             put_ends(out, at, pieces.right)
         }
         Answer::Box(b) => put_box(out, filled, b),
-        Answer::Statistics(s) => put_statistics(out, filled, s),
         Answer::Accepted(i) => put_ends(out, filled, i),
         Answer::AcceptedBox(b) => put_box(out, filled, b),
-        Answer::AcceptedStatistics(s) => put_statistics(out, filled, s),
         Answer::Refused(number) => {
             let at = put_all(out, filled, b"refused ");
             put_decimal(out, at, number as u64)
@@ -156,7 +142,7 @@ fn put_dimension(out: &mut Buffer, filled: usize, dimension: Dimension) -> usize
 }
 
 // Puts the parts of a record.
-fn put_statistics(out: &mut Buffer, filled: usize, s: GeoStatistics) -> usize {
+pub fn put_statistics(out: &mut Buffer, filled: usize, s: GeoStatistics) -> usize {
     let bbox = s.bbox;
     let types = s.geometry_types;
     let at = put_bbox(out, filled, bbox);
@@ -258,12 +244,16 @@ impl Digest {
             Answer::Ends(i) => self.with_ends(i),
             Answer::Split(pieces) => self.with_ends(pieces.left).with_ends(pieces.right),
             Answer::Box(b) => self.with_box(b),
-            Answer::Statistics(s) => self.with_statistics(s),
             Answer::Accepted(i) => self.with_word(0).with_ends(i),
             Answer::AcceptedBox(b) => self.with_word(0).with_box(b),
-            Answer::AcceptedStatistics(s) => self.with_word(0).with_statistics(s),
             Answer::Refused(number) => self.with_word(number as u64),
         }
+    }
+
+    // With the number and the record of a call more.
+    pub fn with_merged(self, merged: Merged) -> Digest {
+        let rec = merged.rec;
+        self.with_word(merged.number as u64).with_statistics(rec)
     }
 
     // With a record more: its parts.

@@ -4,16 +4,18 @@ use crate::answer::box_intersected;
 use crate::answer::converted;
 use crate::answer::ends;
 use crate::answer::intersected;
-use crate::answer::of_merged;
 use crate::answer::of_set;
 use crate::boxes::BOX;
 use crate::boxes::TWO_BOXES;
+use crate::folds::fold_given;
 use crate::lent::merged;
 use crate::lent::updated;
-use crate::records::TWO_RECORDS;
+use crate::reply::Reply;
+use crate::words::RECORD;
 use bytes::scan::find;
 use check::same;
 use sedona_expr::statistics::GeoStatistics;
+use sedona_expr::statistics::Merged;
 use sedona_geometry::bounding_box::BoundingBox;
 use sedona_geometry::float;
 use sedona_geometry::interval::Interval;
@@ -68,6 +70,8 @@ pub enum Name {
     Size,
     Clear,
     Unspecified,
+    Fold,
+    FoldDrawn,
 }
 
 // A row of the tables below.
@@ -84,8 +88,10 @@ pub enum Takes {
     // One box or two, or a box and a double.
     Boxes,
     Sets,
-    // Two records or none.
+    // Two records, one or none.
     Records,
+    // What a list of records is drawn from.
+    Seed,
 }
 
 impl Call {
@@ -117,7 +123,11 @@ impl Call {
         let owner = self.owner;
         match owner {
             Owner::GeometryTypeAndDimensionsSet => Takes::Sets,
-            Owner::GeoStatistics => Takes::Records,
+            Owner::GeoStatistics => if self.operands == 1 {
+                Takes::Seed
+            } else {
+                Takes::Records
+            },
             _ => if self.operands < BOX {
                 Takes::Doubles
             } else {
@@ -234,8 +244,12 @@ fn call_of_statistics(word: &[u8]) -> Call {
     Call::unknown(Owner::GeoStatistics)
         .row(word, b"unspecified", Name::Unspecified, 0)
         .row(word, b"empty", Name::Empty, 0)
-        .row(word, b"merge", Name::Merge, TWO_RECORDS)
-        .row(word, b"merge_value", Name::MergeValue, TWO_RECORDS)
+        .row(word, b"merge_value", Name::MergeValue, 2 * RECORD)
+        .row(word, b"merge", Name::Merge, 2 * RECORD)
+        .row(word, b"fold", Name::Fold, 2 * RECORD)
+        .row(word, b"fold_one", Name::Fold, RECORD)
+        .row(word, b"fold_none", Name::Fold, 0)
+        .row(word, b"fold_drawn", Name::FoldDrawn, 1)
 }
 
 // Makes a call that takes doubles.
@@ -379,14 +393,20 @@ pub fn make_of_sets(call: Call, bits: u32, other_bits: u32) -> Answer {
     }
 }
 
-// Makes a call that takes records, or none.
-pub fn make_of_records(call: Call, s: GeoStatistics, other: GeoStatistics) -> Answer {
+// Makes a call that takes two records, one or none.
+pub fn make_of_records(call: Call, s: GeoStatistics, other: GeoStatistics) -> Reply {
     let name = call.name;
     match name {
-        Name::Unspecified => Answer::Statistics(GeoStatistics::unspecified()),
-        Name::Empty => Answer::Statistics(GeoStatistics::empty()),
-        Name::Merge => of_merged(merged(s, other)),
-        Name::MergeValue => of_merged(s.merge_value(other)),
-        _ => Answer::Unknown,
+        Name::Unspecified => of_record(GeoStatistics::unspecified()),
+        Name::Empty => of_record(GeoStatistics::empty()),
+        Name::MergeValue => Reply::Merged(s.merge_value(other)),
+        Name::Merge => Reply::Merged(merged(s, other)),
+        Name::Fold => Reply::Merged(fold_given(s, other, call.operands / RECORD)),
+        _ => Reply::Answer(Answer::Unknown),
     }
+}
+
+// A record of a call that is never refused.
+fn of_record(rec: GeoStatistics) -> Reply {
+    Reply::Merged(Merged { number: 0, rec })
 }

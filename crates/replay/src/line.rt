@@ -1,7 +1,7 @@
 // The lines of a case file: comments are copied; `values V V ..`, `intervals LO HI ..` and
-// `sets S S ..` set the lists that sweeps go over; `sweep CALL` and `CALL V V ..` are answered.
+// `sets S S ..` set the lists that sweeps go over; `sweep CALL`, `folds SEED COUNT` and
+// `CALL V V ..` are answered.
 use crate::answer::Answer;
-use crate::answer::put_answer;
 use crate::boxes::BOX;
 use crate::boxes::MOST_INTERVALS;
 use crate::boxes::are_boxes;
@@ -13,34 +13,24 @@ use crate::calls::make;
 use crate::calls::make_of_boxes;
 use crate::calls::make_of_records;
 use crate::calls::make_of_sets;
-use crate::output::Buffer;
-use crate::output::put;
-use crate::output::put_all;
-use crate::output::put_decimal;
-use crate::output::put_hex;
+use crate::folds::fold_drawn;
+use crate::folds::fold_lists;
 use crate::records::are_records;
 use crate::records::first_record;
 use crate::records::second_record;
-use crate::sweep::Swept;
+use crate::reply::Reply;
 use crate::sweep::sweep;
+use crate::sweep::sweep_of_records;
 use crate::words::Lists;
 use crate::words::Words;
 use crate::words::read_words;
 use bytes::scan::find;
 use check::same;
-use sedona_expr::statistics::GeoStatistics;
 
 // The room for a line. One that fills it is too long, and no case.
 pub const SIZE: usize = 1024;
 
 pub type Line = [u8; SIZE];
-
-// What is written behind a line.
-pub enum Reply {
-    Nothing,
-    Answer(Answer),
-    Swept(Swept),
-}
 
 // What becomes of a line: the reply to it, and the lists that later sweeps go over.
 pub struct Outcome {
@@ -93,8 +83,10 @@ fn outcome_of_case(line: &[u8], lists: Lists) -> Outcome {
     if same(first, b"sets") {
         return set_list(words.are_sets, lists.with_sets(words), lists);
     }
-    let answer = answer_to(call_named(first), words);
-    Outcome::new(Reply::Answer(answer), lists)
+    if same(first, b"folds") {
+        return Outcome::new(reply_to_folds(words), lists);
+    }
+    Outcome::new(reply_to(call_named(first), words), lists)
 }
 
 // A line with a list, which takes the place of the old where it is good.
@@ -117,23 +109,35 @@ fn reply_to_sweep(rest: &[u8], lists: Lists) -> Reply {
         return Reply::Answer(Answer::Unknown);
     }
     let call = call_named(&rest[1..]);
-    if call.is_known() {
-        Reply::Swept(sweep(call, lists))
+    if !call.is_known() {
+        return Reply::Answer(Answer::Unknown);
+    }
+    match call.takes() {
+        Takes::Records | Takes::Seed => Reply::Swept(sweep_of_records(call)),
+        _ => Reply::Swept(sweep(call, lists)),
+    }
+}
+
+// A `folds` line: the first seed, and how many lists.
+fn reply_to_folds(words: Words) -> Reply {
+    if words.are_sets && words.count == 2 {
+        Reply::Swept(fold_lists(words.sets[0], words.sets[1]))
     } else {
         Reply::Answer(Answer::Unknown)
     }
 }
 
-// What a single case answers.
-fn answer_to(call: Call, words: Words) -> Answer {
+// A single case.
+fn reply_to(call: Call, words: Words) -> Reply {
     if words.count != call.operands {
-        return Answer::Unknown;
+        return Reply::Answer(Answer::Unknown);
     }
     match call.takes() {
-        Takes::Doubles => answer_to_doubles(call, words),
-        Takes::Boxes => answer_to_boxes(call, words),
-        Takes::Sets => answer_to_sets(call, words),
-        Takes::Records => answer_to_records(call, words),
+        Takes::Doubles => Reply::Answer(answer_to_doubles(call, words)),
+        Takes::Boxes => Reply::Answer(answer_to_boxes(call, words)),
+        Takes::Sets => Reply::Answer(answer_to_sets(call, words)),
+        Takes::Records => reply_to_records(call, words),
+        Takes::Seed => reply_to_seed(words),
     }
 }
 
@@ -166,32 +170,20 @@ fn answer_to_sets(call: Call, words: Words) -> Answer {
     }
 }
 
-// What a case answers that takes two records, or none.
-fn answer_to_records(call: Call, words: Words) -> Answer {
-    if words.count == 0 {
-        let nothing = GeoStatistics::unspecified();
-        return make_of_records(call, nothing, nothing);
-    }
+// A case that takes records.
+fn reply_to_records(call: Call, words: Words) -> Reply {
     if are_records(words) {
         make_of_records(call, first_record(words), second_record(words))
     } else {
-        Answer::Unknown
+        Reply::Answer(Answer::Unknown)
     }
 }
 
-// Puts a reply, after ` = ` where there is one.
-pub fn put_reply(out: &mut Buffer, filled: usize, reply: Reply) -> usize {
-    match reply {
-        Reply::Nothing => filled,
-        Reply::Answer(answer) => {
-            let at = put_all(out, filled, b" = ");
-            put_answer(out, at, answer)
-        }
-        Reply::Swept(swept) => {
-            let at = put_all(out, filled, b" = ");
-            let at = put_decimal(out, at, swept.count as u64);
-            let at = put(out, at, b' ');
-            put_hex(out, at, swept.digest as u64, 8)
-        }
+// A case that takes the seed of a list of records.
+fn reply_to_seed(words: Words) -> Reply {
+    if words.are_sets {
+        Reply::Merged(fold_drawn(words.sets[0]))
+    } else {
+        Reply::Answer(Answer::Unknown)
     }
 }

@@ -4,11 +4,13 @@ mod answer;
 mod boxes;
 mod calls;
 mod digits;
+mod folds;
 mod lent;
 mod line;
 mod output;
 mod read;
 mod records;
+mod reply;
 mod sweep;
 mod words;
 mod write;
@@ -18,10 +20,10 @@ use line::Line;
 use line::SIZE;
 use line::outcome_of;
 use line::push;
-use line::put_reply;
 use output::Buffer;
 use output::flush;
 use output::put;
+use reply::put_reply;
 use words::Lists;
 
 // What is kept from one byte of the input to the next.

@@ -15,10 +15,7 @@ use sedona_expr::statistics::GeometryTypes;
 use sedona_expr::statistics::Total;
 use sedona_geometry::types::GeometryTypeAndDimensionsSet;
 
-// How many words two records are.
-pub const TWO_RECORDS: usize = 2 * RECORD;
-
-// Whether words are two records.
+// Whether words are records: two, one or none.
 pub fn are_records(words: Words) -> bool {
     let missing = words.is_missing;
     words.are_parts && is_bbox(missing, 0) && is_bbox(missing, RECORD)

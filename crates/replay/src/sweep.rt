@@ -12,17 +12,13 @@ use crate::calls::make_of_boxes;
 use crate::calls::make_of_records;
 use crate::calls::make_of_sets;
 use crate::digits::last_digit;
+use crate::reply::Reply;
+use crate::reply::Swept;
 use crate::words::Doubles;
 use crate::words::Lists;
 use crate::words::MOST_WORDS;
 use crate::words::Sets;
 use sedona_expr::statistics::GeoStatistics;
-
-// How many calls were made, and the digest of their answers.
-pub struct Swept {
-    pub count: usize,
-    pub digest: u32,
-}
 
 // The most boxes that the intervals make.
 const MOST_BOXES: usize = MOST_INTERVALS
@@ -52,6 +48,26 @@ pub fn sweep(call: Call, lists: Lists) -> Swept {
     }
 }
 
+// The sweep of a call of records. They are in no list: it makes the call only where that takes none.
+pub fn sweep_of_records(call: Call) -> Swept {
+    let none = Swept {
+        count: 0,
+        digest: 0,
+    };
+    if call.operands > 0 {
+        return none;
+    }
+    let nothing = GeoStatistics::unspecified();
+    let Reply::Merged(merged) = make_of_records(call, nothing, nothing) else {
+        return none;
+    };
+    let digest = Digest::new().with_merged(merged);
+    Swept {
+        count: 1,
+        digest: digest.value,
+    }
+}
+
 // The answer to a call whose operands stand in their lists at the digits of a number. What is left
 // of the number is not 0 where it has more digits than there are operands.
 struct Turn {
@@ -75,7 +91,8 @@ fn turn_at(number: usize, call: Call, lists: Lists) -> Turn {
         Takes::Doubles => turn_of_doubles(number, call, values),
         Takes::Boxes => turn_of_boxes(number, call, ends, values),
         Takes::Sets => turn_of_sets(number, call, sets),
-        Takes::Records => turn_of_records(number, call),
+        // No list has them.
+        _ => Turn::new(Answer::Unknown, usize::MAX),
     }
 }
 
@@ -121,15 +138,6 @@ fn turn_of_sets(number: usize, call: Call, sets: Sets) -> Turn {
     let first_at = first.place % MOST_WORDS;
     let answer = make_of_sets(call, sets.list[first_at], sets.list[at]);
     Turn::new(answer, first.rest)
-}
-
-// There are no operands. No sweep goes over records: with them it makes no call.
-fn turn_of_records(number: usize, call: Call) -> Turn {
-    if call.operands > 0 {
-        return Turn::new(Answer::Unknown, usize::MAX);
-    }
-    let nothing = GeoStatistics::unspecified();
-    Turn::new(make_of_records(call, nothing, nothing), number)
 }
 
 // Doubles, and what is left of a number whose last digits are their places.
