@@ -1,7 +1,17 @@
+pub mod Demand3
 pub mod Folding
 pub mod Folds
 pub mod Instances
+pub mod Leaves
+pub mod Marked
+pub mod MayMatch
+pub mod Points
+pub mod Reaches
+pub mod Refusals
+pub mod StraightBoxes
+pub mod Tables
 pub mod Theorems
 pub mod UpdateOut
+pub mod WantedRow
 pub mod While
 pub mod Whole

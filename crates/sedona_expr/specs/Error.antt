@@ -3,3 +3,27 @@ use Prim.Native.Nat.{ℕ}
 
 abbrev pub overflow : ℕ
 overflow = 3
+
+abbrev pub words : ℕ
+words = 4
+
+abbrev pub unknownKind : ℕ
+unknownKind = 5
+
+abbrev pub hasZ : ℕ
+hasZ = 6
+
+abbrev pub badTree : ℕ
+badTree = 7
+
+abbrev pub boxes : ℕ
+boxes = 8
+
+abbrev pub noLiteral : ℕ
+noLiteral = 9
+
+abbrev pub noColumn : ℕ
+noColumn = 10
+
+abbrev pub nameTwice : ℕ
+nameTwice = 11

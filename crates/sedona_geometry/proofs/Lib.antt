@@ -4,7 +4,6 @@ pub mod Boxes
 pub mod Contains
 pub mod Instances
 pub mod Kind
-pub mod Marked
 pub mod MinMax
 pub mod Order
 pub mod Rounding

@@ -2,6 +2,5 @@ pub mod BoundingBox
 pub mod Error
 pub mod Float
 pub mod Interval
-pub mod Marked
 pub mod Types
 pub mod WraparoundInterval

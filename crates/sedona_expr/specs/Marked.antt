@@ -1,15 +1,18 @@
--- The marked readings P1 to P9 of 01, as one table.
+-- The marked readings P1 to P10 of 01, as one table.
 use mathlib.Core.Path.{_≡_}
 use mathlib.Core.Bool.{Bool, true, false}
 use mathlib.Core.List.{List, [], _∷_}
 use Prim.Native.Nat.{ℕ}
 use lib.IntN.{pos}
 use lib.Ieee.{Float, binary64, neg, ofInt, ofBits}
 use Rattle.sedona_geometry.specs.Interval as interval
 use Rattle.sedona_geometry.specs.WraparoundInterval as wraparound
 use Rattle.sedona_geometry.specs.declared.interval.Interval.{Interval}
 use Rattle.sedona_geometry.specs.declared.interval.WraparoundInterval.{WraparoundInterval}
 use Rattle.sedona_geometry.specs.declared.interval.Intersection.{Intersection}
+use Rattle.sedona_expr.specs.SpatialFilter.{Boxes, Table, boxes, table, byPosition, evaluate, filterBbox}
+use Rattle.sedona_expr.specs.declared.spatial_filter.Evaluation as Evaluation
+use Rattle.sedona_expr.specs.declared.spatial_filter.Evaluation.{Evaluation}
 
 -- A call and its answer.
 pub data Reading : Type 0 where
@@ -20,6 +23,7 @@ pub data Reading : Type 0 where
   expand : WraparoundInterval → Float → WraparoundInterval → Reading
   plainIntersect : Interval → Interval → Bool → Reading
   emptyAcceptsNothing : WraparoundInterval → Reading
+  mayMatchInNoX : Table → Boxes → Reading
 
 -- The call has this answer.
 abbrev pub Holds : Reading → Type 0
@@ -29,6 +33,8 @@ Holds (intersect x y r) = wraparound.intersection x y ≡ r
 Holds (accept x v b) = wraparound.intersectsValue x v ≡ b
 Holds (expand x d y) = wraparound.expandBy x d ≡ y
 Holds (plainIntersect i j b) = interval.intersectsInterval i j ≡ b
+Holds (mayMatchInNoX t r) =
+    (_≡_ {A = Evaluation} (evaluate byPosition t r) Evaluation.MayMatch) × (filterBbox t 0 .number ≡ 0) × (wraparound.isEmpty (filterBbox t 0 .bounds .x) ≡ true)
 Holds (emptyAcceptsNothing x) = (wraparound.isEmpty x ≡ true) × ((v : Float) → wraparound.Accepts x v → ⊥)
 
 abbrev pub AllHold : List Reading → Type 0
@@ -47,6 +53,10 @@ largest = ofBits binary64 0x7fef_ffff_ffff_ffff
 
 abbrev x : Float → Float → WraparoundInterval
 x lo hi = wraparound.new lo hi
+
+-- The doubles of a box with y (0, 1), z and m missing.
+abbrev ends : Float → Float → List Float → List Float
+ends lo hi ds = lo ∷ hi ∷ plus 0 ∷ plus 1 ∷ plus 0 ∷ plus 0 ∷ plus 0 ∷ plus 0 ∷ ds
 
 abbrev pub marked : List Reading
 marked =
@@ -73,4 +83,7 @@ marked =
     ∷ expand (x (plus 20) (plus 10)) (plus 5) wraparound.full
     -- P9 (0, 10) intersected with (20, 5)
     ∷ intersect (x (plus 0) (plus 10)) (x (plus 20) (plus 5)) (Intersection.Single (x (plus 0) (plus 5)))
+    -- P10 And of Intersects x (1, 2) and x (5, 6), both y (0, 1), against record x (0, 10), y (0, 1): may match, yet the filter box has empty x
+    ∷ mayMatchInNoX (table (0 ∷ 0 ∷ 0 ∷ 0 ∷ 0 ∷ 0 ∷ 0 ∷ 1 ∷ 3 ∷ 0 ∷ 1 ∷ 0 ∷ []) (ends (plus 1) (plus 2) (ends (plus 5) (plus 6) [])) (1 ∷ 1 ∷ []))
+    (boxes (ends (plus 0) (plus 10) []) (1 ∷ []))
     ∷ []

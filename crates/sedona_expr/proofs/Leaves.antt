@@ -1,0 +1,80 @@
+-- The leaves of a filter, and the literals of those that a table spells. Assumes nothing.
+use mathlib.Core.Bool.{Bool, true, false, cond, _&&_}
+use mathlib.Core.List.{List, [], _∷_}
+use Prim.Native.Nat.{ℕ, zero, suc, _/_, _+_, _*_}
+use lib.Dec.{T, eqb, ltb}
+use lib.ListN.{length, getD}
+use lib.Ieee.{nan, binary64, fits}
+use lib.Ieee.Fits.{nan-fits}
+use Rattle.sedona_geometry.specs.Interval as interval
+use Rattle.sedona_geometry.specs.BoundingBox.{Doubles, DoublesWhereKnown}
+use Rattle.sedona_geometry.specs.declared.bounding_box.BoundingBox.{BoundingBox}
+use Rattle.sedona_expr.specs.Statistics.{All}
+use Rattle.sedona_expr.specs.SpatialFilter.{Column, Filter, intersects, covers, and, or, literalFalse, unknown, Boxes, hasBox, intervalAt, boxWith, boxAt, orEmpty, Table, kind, word, isLeaf, isPair, areBelow, leafOf, pairOf, treeOf, treesBelow, treeAt, hasZ, hasM}
+use Rattle.sedona_expr.specs.Demand.{EachLeaf}
+use Rattle.sedona_expr.proofs.StraightBoxes.{empty-straight}
+
+-- ---- either of two, and any of a list
+pub of-cond : {A : Type 0} (P : A → Type 0) (b : Bool) {x y : A} → P x → P y → P (cond b x y)
+of-cond P true p q = p
+of-cond P false p q = q
+
+of-getD : {A : Type 0} (P : A → Type 0) (xs : List A) (i : ℕ) {d : A} → P d → All P xs → P (getD xs i d)
+of-getD P [] i p h = p
+of-getD P (x ∷ xs) zero p h = h .0
+of-getD P (x ∷ xs) (suc i) p h = of-getD P xs i p (h .1)
+
+-- ---- what follows from two facts of a leaf
+pub leaves-zip : (P Q R : Bool → Column → BoundingBox → Type 0) → ((v : Bool) (c : Column) (k : BoundingBox) → P v c k → Q v c k → R v c k)
+    → (f : Filter) → EachLeaf P f → EachLeaf Q f → EachLeaf R f
+leaves-zip P Q R g (intersects c k) p q = g false c k p q
+leaves-zip P Q R g (covers c k) p q = g true c k p q
+leaves-zip P Q R g (and f h) p q = (leaves-zip P Q R g f (p .0) (q .0), leaves-zip P Q R g h (p .1) (q .1))
+leaves-zip P Q R g (or f h) p q = (leaves-zip P Q R g f (p .0) (q .0), leaves-zip P Q R g h (p .1) (q .1))
+leaves-zip P Q R g literalFalse p q = tt
+leaves-zip P Q R g unknown p q = tt
+
+-- ---- what is so of every literal of a table is so of the leaves that it spells
+module _ (t : Table) (P : BoundingBox → Type 0) (every : (i : ℕ) → P (orEmpty (boxAt (t .literals) i))) where
+  abbrev Literals : Filter → Type 0
+  Literals f = EachLeaf (λ v c k. P k) f
+
+  leaves-of-node : (n : ℕ) (below : ℕ → Filter) → ((m : ℕ) → Literals (below m)) → Literals (treeOf t n below)
+  unfolding treeOf leafOf pairOf
+  leaves-of-node n below h =
+      let k = kind (t .nodes) n in
+      let l = h (word (t .nodes) n 1) in
+      let r = h (word (t .nodes) n 2) in
+      let e = every (word (t .nodes) n 3) in
+      of-cond Literals (isLeaf k) (of-cond Literals (eqb k 0) e e)
+      (of-cond Literals (isPair k) (of-cond Literals (areBelow (t .nodes) n) (of-cond Literals (eqb k 3) (l, r) (l, r)) tt) (of-cond Literals (eqb k 5) tt tt))
+
+  leaves-below : (n m : ℕ) → Literals (treesBelow t n m)
+  leaves-below zero m = tt
+  leaves-below (suc n) m = of-cond Literals (eqb m n) (leaves-of-node n (treesBelow t n) (leaves-below n)) (leaves-below n m)
+
+  pub leaves-of-table : (n : ℕ) → Literals (treeAt t n)
+  unfolding treeAt
+  leaves-of-table n = leaves-of-node n (treesBelow t n) (leaves-below n)
+
+-- ---- the ends of the literals are doubles
+module _ (b : Boxes) (h : All (λ d. T (fits binary64 d)) (b .doubles)) where
+  end-fits : (i : ℕ) → T (fits binary64 (getD (b .doubles) i nan))
+  end-fits i = of-getD (λ d. T (fits binary64 d)) (b .doubles) i (nan-fits binary64) h
+
+  interval-doubles : (i k : ℕ) → interval.Doubles (intervalAt (b .doubles) i k)
+  interval-doubles i k = record { lo = end-fits (8 * i + 2 * k); hi = end-fits (8 * i + 2 * k + 1) }
+
+  box-doubles : (i flag : ℕ) → Doubles (boxWith (b .doubles) i flag)
+  unfolding boxWith
+  box-doubles i flag = record {
+    x = interval-doubles i 0;
+    y = interval-doubles i 1;
+    z = of-cond DoublesWhereKnown (hasZ flag) (interval-doubles i 2) tt;
+    m = of-cond DoublesWhereKnown (hasM flag) (interval-doubles i 3) tt;
+  }
+
+  pub literal-doubles : (i : ℕ) → Doubles (orEmpty (boxAt b i))
+  unfolding orEmpty boxAt
+  literal-doubles i =
+      of-cond (λ o. Doubles (orEmpty o)) (ltb i (length (b .doubles) / 8) && hasBox (getD (b .flags) i 0)) (box-doubles i (getD (b .flags) i 0)) (empty-straight .doubles)

@@ -1,0 +1,93 @@
+-- The first half of demand 3: against the folds of its columns' records, the filter of a row of which it holds may match. Assumes nothing.
+use mathlib.Core.Path.{_≡_, refl}
+use mathlib.Core.Logic.{inl, inr}
+use mathlib.Core.Bool.{true, _||_}
+use mathlib.Core.List.{List, [], _∷_}
+use Rattle.sedona_geometry.specs.Interval as interval
+use Rattle.sedona_geometry.specs.BoundingBox as boundingBox
+use Rattle.sedona_geometry.specs.declared.interval.Interval.{Interval}
+use Rattle.sedona_geometry.specs.declared.bounding_box.Dimension as Dimension
+use Rattle.sedona_geometry.specs.declared.bounding_box.Dimension.{Dimension}
+use Rattle.sedona_geometry.specs.declared.bounding_box.BoundingBox.{BoundingBox}
+use Rattle.sedona_geometry.proofs.Order.{holds, is-true, or-right}
+use Rattle.sedona_geometry.proofs.Boxes as boxes
+use Rattle.sedona_expr.specs.Statistics.{All, DoublesWhereKnown, NoLess, fold}
+use Rattle.sedona_expr.specs.SpatialFilter.{Column, Filter, intersects, covers, and, or, literalFalse, unknown, mayIntersect, mayCover, answer}
+use Rattle.sedona_expr.specs.Demand.{HasBox, Holds, EachLeaf, Some, Folds, UnderCovers, WhereBox}
+use Rattle.sedona_expr.specs.declared.statistics.Bbox as Bbox
+use Rattle.sedona_expr.specs.declared.statistics.Bbox.{Bbox}
+use Rattle.sedona_expr.specs.declared.statistics.GeoStatistics.{GeoStatistics}
+use Rattle.sedona_expr.proofs.Points.{ordered}
+use Rattle.sedona_expr.proofs.StraightBoxes.{StraightBox, Unwrapped, straight-where, Holding, fold-holding}
+use Rattle.sedona_expr.proofs.Theorems.{no-box-shrinks}
+
+-- ---- lists of records
+-- what is so of every record's box is so of the row's, which is among them
+of-own : (P : Bbox → Type 0) (rs : List GeoStatistics) {own : Bbox} → All (λ s. P (s .bbox)) rs → Some (λ s. s .bbox ≡ own) rs → P own
+of-own P [] h a = absurd a
+of-own P (s ∷ rs) h (inl e) = rw e at (h .0)
+of-own P (s ∷ rs) h (inr a) = of-own P rs (h .1) a
+
+all-zip : {A : Type 0} (P Q R : A → Type 0) (xs : List A) → ((x : A) → P x → Q x → R x) → All P xs → All Q xs → All R xs
+all-zip P Q R [] f p q = tt
+all-zip P Q R (x ∷ xs) f p q = (f x (p .0) (q .0), all-zip P Q R xs f (p .1) (q .1))
+
+-- ---- an Intersects: a common number with the row's box is one with the fold's
+common-interval : {l i j : Interval} → boundingBox.AcceptsAllOf l i → interval.Common i j → interval.Common l j
+common-interval n h = record { number = h .number; double = h .double; left = n (h .number) (h .left); right = h .right }
+
+common-dimensions : (c b k : Dimension) → boundingBox.AcceptsAllOfKnown c b → boundingBox.WhereKnown interval.Common b k → boundingBox.WhereKnown interval.Common c k
+common-dimensions Dimension.Missing b k n h = tt
+common-dimensions (Dimension.Known l) Dimension.Missing k n h = absurd n
+common-dimensions (Dimension.Known l) (Dimension.Known i) Dimension.Missing n h = tt
+common-dimensions (Dimension.Known l) (Dimension.Known i) (Dimension.Known j) n h = common-interval n h
+
+common-no-less : {c b k : BoundingBox} → boundingBox.NoLess c b → boundingBox.Common b k → boundingBox.Common c k
+common-no-less {c} {b} {k} n h = record {
+  x = record { number = h .x .number; double = h .x .double; left = n .x (h .x .number) (h .x .left); right = h .x .right };
+  y = common-interval (n .y) (h .y);
+  z = common-dimensions (c .z) (b .z) (k .z) (n .z) (h .z);
+  m = common-dimensions (c .m) (b .m) (k .m) (n .m) (h .m);
+}
+
+may-intersect : (lent own : Bbox) (k : BoundingBox) → NoLess lent own → HasBox (λ b. boundingBox.Common b k) own → mayIntersect lent k ≡ true
+unfolding mayIntersect
+may-intersect Bbox.Missing own k n h = refl
+may-intersect (Bbox.Known c) Bbox.Missing k n h = absurd h
+may-intersect (Bbox.Known c) (Bbox.Known b) k n h = boxes.common-intersect (common-no-less n h)
+
+-- ---- a Covers: a literal that the row's box contains, the fold's box contains
+contains-parts : (o : Bbox) (k : BoundingBox) → HasBox (λ b. boundingBox.contains b k ≡ true) o → Holding k o
+contains-parts Bbox.Missing k h = absurd h
+contains-parts (Bbox.Known b) k h = boxes.parts h
+
+may-cover : (o : Bbox) (k : BoundingBox) → Holding k o → mayCover o k ≡ true
+unfolding mayCover
+may-cover Bbox.Missing k h = refl
+may-cover (Bbox.Known b) k h = boxes.whole h
+
+-- ---- the two leaves
+module _ {rs : List GeoStatistics} {own lent : Bbox} (F : Folds rs own lent) where
+  fold-no-less : NoLess lent own
+  fold-no-less = rw (F .folded) (of-own (λ b. NoLess (fold rs .rec .bbox) b) rs (no-box-shrinks rs (F .doubles) (F .fit)) (F .among))
+
+  fold-covers : (k : BoundingBox) → UnderCovers true rs k → Holding k own → Holding k lent
+  fold-covers k u =
+      rw (F .folded)
+      (of-own (λ b. Holding k b → Holding k (fold rs .rec .bbox)) rs
+      (fold-holding k (ordered (k .x .inner) (u .1)) rs
+      (all-zip (λ s. DoublesWhereKnown (s .bbox)) (λ s. WhereBox Unwrapped (s .bbox)) (λ s. WhereBox StraightBox (s .bbox)) rs (λ s. straight-where (s .bbox)) (F .doubles) (u .0))
+      (F .fit))
+      (F .among))
+
+-- ---- the whole filter
+module _ (own lent : Column → Bbox) (lists : Column → List GeoStatistics) where
+  pub may-match : (f : Filter) → EachLeaf (λ v c k. Folds (lists c) (own c) (lent c)) f → EachLeaf (λ v c k. UnderCovers v (lists c) k) f
+      → Holds own f → answer lent f ≡ true
+  may-match (intersects c k) F u h = may-intersect (lent c) (own c) k (fold-no-less F) h
+  may-match (covers c k) F u h = may-cover (lent c) k (fold-covers F k u (contains-parts (own c) k h))
+  may-match (and f g) F u h = rw (may-match f (F .0) (u .0) (h .0), may-match g (F .1) (u .1) (h .1))
+  may-match (or f g) F u (inl h) = rw (may-match f (F .0) (u .0) h)
+  may-match (or f g) F u (inr h) = is-true (answer lent f || answer lent g) (or-right (answer lent f) (answer lent g) (holds (may-match g (F .1) (u .1) h)))
+  may-match literalFalse F u h = absurd h
+  may-match unknown F u h = refl

@@ -1,0 +1,164 @@
+-- A point, and what contains it: all there is, a literal that has a common number with it, and a literal that it contains. Assumes nothing.
+use mathlib.Core.Path.{_≡_, refl}
+use mathlib.Core.Logic.{_↔_}
+use mathlib.Core.Bool.{Bool, true, false, _&&_}
+use native.Mathlib.Omega.{arith}
+use lib.Dec.{T}
+use lib.Ieee.{Float, eq}
+use lib.Ieee.Fits.{and-l, and-i}
+use Rattle.sedona_geometry.specs.Interval as interval
+use Rattle.sedona_geometry.specs.WraparoundInterval as wraparound
+use Rattle.sedona_geometry.specs.BoundingBox as boundingBox
+use Rattle.sedona_geometry.specs.BoundingBox.{Doubles, testKnown, dimensionsContain}
+use Rattle.sedona_geometry.specs.declared.interval.Interval.{Interval}
+use Rattle.sedona_geometry.specs.declared.interval.WraparoundInterval.{WraparoundInterval}
+use Rattle.sedona_geometry.specs.declared.bounding_box.Dimension as Dimension
+use Rattle.sedona_geometry.specs.declared.bounding_box.Dimension.{Dimension}
+use Rattle.sedona_geometry.specs.declared.bounding_box.BoundingBox.{BoundingBox}
+use Rattle.sedona_geometry.proofs.Order.{Number, infinite, finite, Le, holds, is-true, le-of-eq, le-refl, le-trans, le-number, eq-inf, eq-fin, →le-fin, bottom, top}
+use Rattle.sedona_geometry.proofs.Accepts as plain
+use Rattle.sedona_geometry.proofs.Wrapping.{split-plain, low-to-high-plain, plain-of-accepts, infinite-doubles}
+use Rattle.sedona_geometry.proofs.Contains.{Contains, inside, contains}
+use Rattle.sedona_geometry.proofs.Boxes.{Parts, LowToHigh, LowToHighWhereKnown}
+use Rattle.sedona_expr.specs.SpatialFilter.{full}
+use Rattle.sedona_expr.specs.Demand.{WhereKnown, Each, isPoint, lowToHigh}
+
+-- ---- an order of equals
+le-back : {x y : Float} → T (eq x y) → Le y x
+unfolding eq
+le-back {x} {y} h = let n = le-number (le-of-eq {x = x} {y = y} h) in go h (n .0) (n .1)
+  where
+    go : {x y : Float} → T (eq x y) → Number x → Number y → Le y x
+    go {x} h X (infinite {s}) = rw (eq-inf x s h) (le-refl infinite)
+    go h infinite finite = absurd h
+    go h (finite {s} {m} {e}) (finite {s = t} {m = n} {e = d}) =
+        let k = eq-fin s m e t n d .0 h in
+        →le-fin t n d s m e (omega arith)
+
+-- ---- an x that does not wrap contains one as its interval does
+plain-contains : {x k : WraparoundInterval} → wraparound.isWraparound x ≡ false → wraparound.isWraparound k ≡ false
+    → (wraparound.containsInterval x k ≡ true) ↔ Contains (x .inner) (k .inner)
+unfolding wraparound.containsInterval
+plain-contains {x} {k} w u =
+    rw (split-plain x w, split-plain k u)
+    (λ h. record { holds = is-true p (and-l p q (holds h)) }, λ c. is-true (p && q) (and-i p q (holds (c .holds)) (holds none)))
+  where
+    p : Bool
+    p = interval.containsInterval (x .inner) (k .inner)
+
+    q : Bool
+    q = interval.containsInterval interval.empty interval.empty
+
+    none : interval.containsInterval interval.empty interval.empty ≡ true
+    none = contains {i = interval.empty} {j = interval.empty} (le-refl infinite) (le-refl infinite) .holds
+
+-- ---- what a point is, and what runs low to high
+pub record Point (i : Interval) : Type 0 where
+  pub up : Le (i .lo) (i .hi)
+  pub down : Le (i .hi) (i .lo)
+
+abbrev pub Ordered : Interval → Type 0
+Ordered i = Le (i .lo) (i .hi)
+
+pub point : (i : Interval) → isPoint i → Point i
+point i p = record { up = le-of-eq (holds (p .0)); down = le-back (holds (p .0)) }
+
+pub ordered : (i : Interval) → lowToHigh i ≡ true → Ordered i
+ordered i h = record { test = holds h }
+
+known-map : (P Q : Interval → Type 0) → ((i : Interval) → P i → Q i) → (d : Dimension) → WhereKnown P d → WhereKnown Q d
+known-map P Q f Dimension.Missing h = tt
+known-map P Q f (Dimension.Known i) h = f i h
+
+pub each-map : {P Q : Interval → Type 0} {b : BoundingBox} → ((i : Interval) → P i → Q i) → Each P b → Each Q b
+each-map {P} {Q} {b} f h = record {
+  x = f (b .x .inner) (h .x);
+  y = f (b .y) (h .y);
+  z = known-map P Q f (b .z) (h .z);
+  m = known-map P Q f (b .m) (h .m);
+}
+
+known-low-to-high : (d : Dimension) → WhereKnown Point d → LowToHighWhereKnown d
+known-low-to-high Dimension.Missing p = tt
+known-low-to-high (Dimension.Known i) p = p .up
+
+pub point-low-to-high : {b : BoundingBox} → Each Point b → LowToHigh b
+point-low-to-high {b} p = record { x = p .x .up; y = p .y .up; z = known-low-to-high (b .z) (p .z); m = known-low-to-high (b .m) (p .m) }
+
+-- ---- all there is contains a point
+full-contains : {i : Interval} → Point i → Contains interval.full i
+full-contains p = contains (bottom (le-number (p .up) .0)) (top (le-number (p .up) .1))
+
+pub full-reaches : {b : BoundingBox} → Doubles b → Each Point b → Parts full b
+unfolding testKnown
+full-reaches D p = record {
+  x = plain-contains (low-to-high-plain (infinite-doubles true false) (bottom infinite)) (low-to-high-plain (D .x) (p .x .up)) .1 (full-contains (p .x));
+  y = full-contains (p .y);
+  z = refl;
+  m = refl;
+}
+
+-- ---- what is said of two intervals, said of two boxes
+pub record Pair (R : Interval → Interval → Type 0) (b k : BoundingBox) : Type 0 where
+  pub x : R (b .x .inner) (k .x .inner)
+  pub y : R (b .y) (k .y)
+  pub z : boundingBox.WhereKnown R (b .z) (k .z)
+  pub m : boundingBox.WhereKnown R (b .m) (k .m)
+
+-- where it turns a point's interval into one that is contained, it does so of boxes
+module _ (R : Interval → Interval → Type 0) (turn : (i j : Interval) → Point i → Ordered j → R i j → Contains j i) where
+  dimension-turned : (k d : Dimension) → WhereKnown Ordered k → WhereKnown Point d → boundingBox.WhereKnown R d k → dimensionsContain k d ≡ true
+  unfolding testKnown
+  dimension-turned Dimension.Missing d l p r = refl
+  dimension-turned (Dimension.Known j) Dimension.Missing l p r = refl
+  dimension-turned (Dimension.Known j) (Dimension.Known i) l p r = turn i j p l r .holds
+
+  turned : {b k : BoundingBox} → Doubles b → Doubles k → Each Point b → Each Ordered k → Pair R b k → Parts k b
+  turned {b} {k} D E p l r = record {
+    x = plain-contains (low-to-high-plain (E .x) (l .x)) (low-to-high-plain (D .x) (p .x .up)) .1 (turn (b .x .inner) (k .x .inner) (p .x) (l .x) (r .x));
+    y = turn (b .y) (k .y) (p .y) (l .y) (r .y);
+    z = dimension-turned (k .z) (b .z) (l .z) (p .z) (r .z);
+    m = dimension-turned (k .m) (b .m) (l .m) (p .m) (r .m);
+  }
+
+-- ---- a literal that has a common number with a point contains it
+common-contains : (i j : Interval) → Point i → Ordered j → interval.Common i j → Contains j i
+common-contains i j p l c =
+    let a = plain.between (c .left) in
+    let b = plain.between (c .right) in
+    contains (le-trans (b .0) (le-trans (a .1) (p .down))) (le-trans (p .down) (le-trans (a .0) (b .1)))
+
+pub common-reaches : {b k : BoundingBox} → Doubles b → Doubles k → Each Point b → Each Ordered k → boundingBox.Common b k → Parts k b
+common-reaches {b} {k} D E p l c =
+    turned interval.Common common-contains D E p l (record {
+      x = record {
+        number = c .x .number;
+        double = c .x .double;
+        left = plain-of-accepts (low-to-high-plain (D .x) (p .x .up)) (c .x .left);
+        right = plain-of-accepts (low-to-high-plain (E .x) (l .x)) (c .x .right);
+      };
+      y = c .y;
+      z = c .z;
+      m = c .m;
+    })
+
+-- ---- a literal that a point contains contains it
+contained-contains : (i j : Interval) → Point i → Ordered j → Contains i j → Contains j i
+contained-contains i j p l c =
+    let h = inside c in
+    contains (le-trans l (le-trans (h .1) (p .down))) (le-trans (p .down) (le-trans (h .0) l))
+
+known-contains : (d k : Dimension) → dimensionsContain d k ≡ true → boundingBox.WhereKnown Contains d k
+unfolding testKnown
+known-contains Dimension.Missing k h = tt
+known-contains (Dimension.Known i) Dimension.Missing h = tt
+known-contains (Dimension.Known i) (Dimension.Known j) h = record { holds = h }
+
+pub contained-reaches : {b k : BoundingBox} → Doubles b → Doubles k → Each Point b → Each Ordered k → Parts b k → Parts k b
+contained-reaches {b} {k} D E p l c =
+    turned Contains contained-contains D E p l (record {
+      x = plain-contains (low-to-high-plain (D .x) (p .x .up)) (low-to-high-plain (E .x) (l .x)) .0 (c .x);
+      y = c .y;
+      z = known-contains (b .z) (k .z) (c .z);
+      m = known-contains (b .m) (k .m) (c .m);
+    })

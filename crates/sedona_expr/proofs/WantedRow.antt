@@ -1,0 +1,170 @@
+-- The hypotheses of demand 3 can be met, for each call and for each half: And of (Or of an Intersects of column 0 and a LiteralFalse) and of a
+-- Covers of column 1, a row that is a point in both, and for column 0 three records, one of them without a box and one wrapped. Assumes nothing.
+use mathlib.Core.Path.{_≡_, refl}
+use mathlib.Core.Bool.{true, false}
+use mathlib.Core.Logic.{inl, inr}
+use mathlib.Core.List.{List, [], _∷_}
+use Prim.Native.Nat.{ℕ, zero, suc, _<_}
+use native.Mathlib.Omega.{arith}
+use lib.IntN.{pos}
+use lib.ListN.{getD}
+use lib.Ieee.{Float, binary64, fits, add, sub, div, neg, lt, le, eq, isNan, round, ofInt}
+use Rattle.sedona_geometry.specs.Float.{minNum, maxNum, abs}
+use Rattle.sedona_geometry.specs.Interval as interval
+use Rattle.sedona_geometry.specs.WraparoundInterval as wraparound
+use Rattle.sedona_geometry.specs.BoundingBox as boundingBox
+use Rattle.sedona_geometry.specs.declared.bounding_box.BoundingBox.{BoundingBox}
+use Rattle.sedona_expr.specs.Statistics as statistics
+use Rattle.sedona_expr.specs.SpatialFilter as filter
+use Rattle.sedona_expr.specs.SpatialFilter.{Boxes, Table, Lookup, byPosition, byName}
+use Rattle.sedona_expr.specs.Demand.{Row, WhereBox, Folds, Wanted, Each, isPoint, Numbers, Pointed, MayMatch, Reaches}
+use Rattle.sedona_expr.specs.declared.statistics.Bbox as Bbox
+use Rattle.sedona_expr.specs.declared.statistics.Bbox.{Bbox}
+use Rattle.sedona_expr.specs.declared.statistics.GeoStatistics.{GeoStatistics}
+use Rattle.sedona_expr.proofs.Instances.{reading}
+use Rattle.sedona_expr.proofs.Demand3.{demand-3}
+
+abbrev plus : ℕ → Float
+plus n = ofInt binary64 (pos n)
+
+-- A box of x and y.
+abbrev flat : Float → Float → Float → Float → BoundingBox
+flat a b c d = boundingBox.xy (wraparound.new a b) (interval.new c d)
+
+-- ---- what is lent
+
+abbrev nodes : List ℕ
+nodes =
+    -- 0: Intersects, index 0, name 7, literal 0
+    0 ∷ 0 ∷ 7 ∷ 0
+    -- 1: LiteralFalse
+    ∷ 5 ∷ 0 ∷ 0 ∷ 0
+    -- 2: Or of 0 and 1
+    ∷ 4 ∷ 0 ∷ 1 ∷ 0
+    -- 3: Covers, index 1, name 9, literal 1
+    ∷ 1 ∷ 1 ∷ 9 ∷ 1
+    -- 4: And of 2 and 3
+    ∷ 3 ∷ 2 ∷ 3 ∷ 0
+    ∷ []
+
+-- The doubles of a box of x and y.
+abbrev ends : Float → Float → Float → Float → List Float → List Float
+ends a b c d ds = a ∷ b ∷ c ∷ d ∷ plus 0 ∷ plus 0 ∷ plus 0 ∷ plus 0 ∷ ds
+
+abbrev t : Table
+t = filter.table nodes (ends (plus 0) (plus 10) (plus 0) (plus 10) (ends (plus 4) (plus 4) (plus 5) (plus 5) [])) (1 ∷ 1 ∷ [])
+
+abbrev r : Boxes
+r = filter.boxes (ends (plus 2) (neg (plus 170)) (plus 1) (plus 9) (ends (plus 3) (plus 6) (plus 5) (plus 8) [])) (1 ∷ 1 ∷ [])
+
+abbrev names : List ℕ
+names = 7 ∷ 9 ∷ []
+
+-- ---- the row and the lists
+
+abbrev row : Row
+row zero = Bbox.Known (flat (plus 2) (plus 2) (plus 3) (plus 3))
+row (suc n) = Bbox.Known (flat (plus 4) (plus 4) (plus 5) (plus 5))
+
+abbrev lists : ℕ → List GeoStatistics
+lists zero =
+    reading (row 0) (pos 1)
+    ∷ reading Bbox.Missing (pos 2)
+    ∷ reading (Bbox.Known (flat (plus 170) (neg (plus 170)) (plus 1) (plus 9))) (pos 3)
+    ∷ []
+lists (suc n) = reading (Bbox.Known (flat (plus 3) (plus 6) (plus 6) (plus 8))) (pos 4) ∷ reading (row 1) (pos 5) ∷ []
+
+-- ---- each column's list
+folds-0 : Folds (lists 0) (row 0) (filter.boxAt r 0)
+unfolding fits add sub div neg lt le eq isNan round ofInt minNum maxNum abs interval.intersectsInterval interval.isEmpty interval.mergeInterval wraparound.isWraparound wraparound.split wraparound.mid wraparound.fromPieces wraparound.mergeWrapped wraparound.nearerLeft wraparound.mergePlain wraparound.mergeNonEmpty wraparound.mergeInterval boundingBox.joinKnown boundingBox.mergeBox statistics.leaves statistics.sumLeaves statistics.totalsOverflow statistics.countsOverflow statistics.mergeBboxes statistics.mergeParts statistics.mergeValue statistics.addTotals statistics.step statistics.foldFrom filter.boxWith filter.boxAt
+folds-0 = record {
+  doubles = (
+    record { x = record { lo = tt; hi = tt }; y = record { lo = tt; hi = tt }; z = tt; m = tt },
+    (tt, (record { x = record { lo = tt; hi = tt }; y = record { lo = tt; hi = tt }; z = tt; m = tt }, tt)),
+  );
+  has = tt;
+  among = inl refl;
+  fit = refl;
+  folded = refl;
+}
+
+folds-1 : Folds (lists 1) (row 1) (filter.boxAt r 1)
+unfolding fits add sub div neg lt le eq isNan round ofInt minNum maxNum abs interval.intersectsInterval interval.isEmpty interval.mergeInterval wraparound.isWraparound wraparound.split wraparound.mid wraparound.fromPieces wraparound.mergeWrapped wraparound.nearerLeft wraparound.mergePlain wraparound.mergeNonEmpty wraparound.mergeInterval boundingBox.joinKnown boundingBox.mergeBox statistics.leaves statistics.sumLeaves statistics.totalsOverflow statistics.countsOverflow statistics.mergeBboxes statistics.mergeParts statistics.mergeValue statistics.addTotals statistics.step statistics.foldFrom filter.boxWith filter.boxAt
+folds-1 = record {
+  doubles = (
+    record { x = record { lo = tt; hi = tt }; y = record { lo = tt; hi = tt }; z = tt; m = tt },
+    (record { x = record { lo = tt; hi = tt }; y = record { lo = tt; hi = tt }; z = tt; m = tt }, tt),
+  );
+  has = tt;
+  among = inr (inl refl);
+  fit = refl;
+  folded = refl;
+}
+
+-- ---- the row
+row-doubles : (i : ℕ) → WhereBox boundingBox.Doubles (row i)
+unfolding fits round ofInt
+row-doubles zero = record { x = record { lo = tt; hi = tt }; y = record { lo = tt; hi = tt }; z = tt; m = tt }
+row-doubles (suc i) = record { x = record { lo = tt; hi = tt }; y = record { lo = tt; hi = tt }; z = tt; m = tt }
+
+row-point : (i : ℕ) → WhereBox (Each isPoint) (row i)
+unfolding eq isNan round ofInt
+row-point zero = record { x = (refl, refl); y = (refl, refl); z = tt; m = tt }
+row-point (suc i) = record { x = (refl, refl); y = (refl, refl); z = tt; m = tt }
+
+two-differ : (i j : ℕ) → i < 2 → j < 2 → getD names i 0 ≡ getD names j 0 → i ≡ j
+two-differ zero zero h k e = refl
+two-differ zero (suc zero) h k e = absurd (omega arith)
+two-differ zero (suc (suc j)) h k e = absurd (omega arith)
+two-differ (suc zero) zero h k e = absurd (omega arith)
+two-differ (suc zero) (suc zero) h k e = refl
+two-differ (suc zero) (suc (suc j)) h k e = absurd (omega arith)
+two-differ (suc (suc i)) j h k e = absurd (omega arith)
+
+-- ---- the hypotheses, for any call that finds the two columns
+module _ (l : Lookup) (wellFormed : filter.refusal l t r ≡ 0) (first : filter.place l (filter.column 0 7) ≡ 0) (second : filter.place l (filter.column 1 9) ≡ 1) where
+  wanted : Wanted l t r row lists
+  unfolding fits sub neg lt le eq isNan round ofInt interval.intersectsValue interval.containsInterval interval.isEmpty wraparound.isWraparound wraparound.split wraparound.intersectsValue wraparound.containsInterval boundingBox.testKnown boundingBox.contains filter.boxWith filter.boxAt filter.orEmpty filter.leafOf filter.pairOf filter.areBelow filter.treeOf filter.treeAt
+  wanted = record {
+    wellFormed = wellFormed;
+    exist = rw (first, second) ((omega arith, tt), omega arith);
+    holds = rw (first, second) (
+      inl (record {
+        x = record { number = plus 2; double = tt; left = record { holds = refl }; right = record { holds = refl } };
+        y = record { number = plus 3; double = tt; left = record { holds = refl }; right = record { holds = refl } };
+        z = tt;
+        m = tt;
+      }),
+      refl,
+    );
+    folds = rw (first, second) ((folds-0, tt), folds-1);
+    under = rw second ((tt, tt), (((refl, refl), ((refl, refl), tt)), refl));
+  }
+
+  pointed : Numbers l names → Pointed l t r row names
+  unfolding fits neg lt le eq isNan round ofInt filter.boxWith filter.boxAt filter.orEmpty filter.leafOf filter.pairOf filter.areBelow filter.treeOf filter.treeAt
+  pointed numbers = record {
+    numbers = numbers;
+    count = refl;
+    literals = (tt, (tt, (tt, (tt, (tt, (tt, (tt, (tt, (tt, (tt, (tt, (tt, (tt, (tt, (tt, (tt, tt))))))))))))))));
+    doubles = λ i h. row-doubles i;
+    point = λ i h. row-point i;
+    ownNames = rw (first, second) ((refl, tt), refl);
+    differ = two-differ;
+    lowToHigh = (
+      (record { x = refl; y = refl; z = tt; m = tt }, tt),
+      record { x = refl; y = refl; z = tt; m = tt },
+    );
+  }
+
+  pub both-halves : Numbers l names → MayMatch l t r × Reaches t row names
+  both-halves numbers = let d = demand-3 l t r row lists wanted in (d .0, d .1 names (pointed numbers))
+
+-- ---- each call
+pub by-position : MayMatch byPosition t r × Reaches t row names
+unfolding filter.orElse filter.wordsRefusal filter.goodFlag filter.boxesRefusal filter.namesRefusal filter.twiceRefusal filter.recordsRefusal filter.areBelow filter.pairRefusal filter.isLent filter.leafRefusal filter.nodeRefusal filter.usesBy filter.usesRefusal filter.treeRefusal filter.refusal filter.place
+by-position = both-halves byPosition refl refl refl tt
+
+pub by-name : MayMatch (byName names) t r × Reaches t row names
+unfolding filter.orElse filter.wordsRefusal filter.goodFlag filter.boxesRefusal filter.placeOf filter.hasTwice filter.namesRefusal filter.twiceRefusal filter.recordsRefusal filter.areBelow filter.pairRefusal filter.isLent filter.leafRefusal filter.nodeRefusal filter.usesBy filter.usesRefusal filter.treeRefusal filter.refusal filter.place
+by-name = both-halves (byName names) refl refl refl refl

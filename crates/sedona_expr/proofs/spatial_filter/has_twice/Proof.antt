@@ -1,0 +1,34 @@
+-- `spatial_filter::has_twice` meets its contract: past names that do not come again, it is as the rest says. Assumes nothing.
+use mathlib.Core.Path.{_≡_, refl, _∙_}
+use Prim.Native.Nat.{_-_, _≤_}
+use native.Mathlib.Omega.{arith}
+use lib.ListN.{length, drop}
+use Rattle.sedona_expr.specs.SpatialFilter.{hasTwice}
+use Rattle.sedona_expr.proofs.Tables.{twice-next, twice-none, among, not-among}
+use borrow.Author.Needs.{needs}
+use Rattle.sedona_expr.proofs.spatial_filter.has_twice.Statement.{statement}
+use Rattle.sedona_expr.proofs.spatial_filter.has_twice.Tie as tie
+
+abbrev Inv-loop : tie.InvT-loop
+Inv-loop names i₀ i = (i ≤ length names) × (hasTwice names ≡ hasTwice (drop i names))
+
+abbrev μ-loop : tie.MeasureT-loop
+μ-loop names i₀ i = length names - i
+
+loop-holds : tie.Need-loop-holds Inv-loop μ-loop
+loop-holds c = (omega arith, refl)
+
+returns : tie.Need-returns Inv-loop μ-loop
+returns c = rw (c .before .before .before .before .loop .inv .1, twice-next (c .before .before .before .before .before .before .args .names .now) (c .before .before .before .before .loop .i) (c .before .before .before .loop-test .taken), among (c .before .before .before .before .before .before .args .names .now) (c .before .before .before .before .loop .i) (c .before .place-of .result) (c .before .before .before .loop-test .taken) (c .before .place-of .ensures) (c .if1 .taken))
+
+loop-less : tie.Need-loop-less Inv-loop μ-loop
+loop-less c = omega arith
+
+loop-again : tie.Need-loop-again Inv-loop μ-loop
+loop-again c = (omega arith, c .before .before .before .before .loop .inv .1 ∙ rw (twice-next (c .before .before .before .before .before .before .args .names .now) (c .before .before .before .before .loop .i) (c .before .before .before .loop-test .taken), not-among (c .before .before .before .before .before .before .args .names .now) (c .before .before .before .before .loop .i) (c .before .place-of .result) (c .before .before .before .loop-test .taken) (c .before .place-of .ensures) (c .if1 .left)))
+
+returns-2 : tie.Need-returns-2 Inv-loop μ-loop
+returns-2 c = rw (c .before .loop .inv .1, twice-none (c .before .before .before .args .names .now) (c .before .loop .i) (c .loop-test .left))
+
+pub has-twice-spec : {M : Type 1} → statement M
+has-twice-spec = tie.close (tie.spec Inv-loop μ-loop loop-holds (λ c. search needs) (λ c. search needs) (λ c. search needs) (λ c κs. search needs) returns (λ c. search needs) loop-less loop-again returns-2)

@@ -1,0 +1,34 @@
+-- `spatial_filter::place_of` meets its contract: past the names that differ, the place is as far on. Assumes nothing.
+use mathlib.Core.Path.{_≡_}
+use Prim.Native.Nat.{_+_, _-_, _≤_}
+use native.Mathlib.Omega.{arith}
+use lib.ListN.{length, drop}
+use Rattle.sedona_expr.specs.SpatialFilter.{placeOf}
+use Rattle.sedona_expr.proofs.Tables.{place-hit, place-miss, place-none}
+use borrow.Author.Needs.{needs}
+use Rattle.sedona_expr.proofs.spatial_filter.place_of.Statement.{statement}
+use Rattle.sedona_expr.proofs.spatial_filter.place_of.Tie as tie
+
+abbrev Inv-loop : tie.InvT-loop
+Inv-loop names from name i₀ i = (i ≤ length names) × (from + placeOf (drop from names) name ≡ i + placeOf (drop i names) name)
+
+abbrev μ-loop : tie.MeasureT-loop
+μ-loop names from name i₀ i = length names - i
+
+loop-holds : tie.Need-loop-holds Inv-loop μ-loop
+loop-holds c = (c .pre, omega arith)
+
+returns : tie.Need-returns Inv-loop μ-loop
+returns c = omega (arith, c .before .before .before .loop .inv .1, place-hit (c .before .before .before .before .args .names .now) (c .before .before .before .loop .i) (c .before .before .before .before .args .name) (c .before .before .loop-test .taken) (c .if1 .taken))
+
+loop-less : tie.Need-loop-less Inv-loop μ-loop
+loop-less c = omega arith
+
+loop-again : tie.Need-loop-again Inv-loop μ-loop
+loop-again c = (omega arith, omega (arith, c .before .before .before .loop .inv .1, place-miss (c .before .before .before .before .args .names .now) (c .before .before .before .loop .i) (c .before .before .before .before .args .name) (c .before .before .loop-test .taken) (c .if1 .left)))
+
+returns-2 : tie.Need-returns-2 Inv-loop μ-loop
+returns-2 c = omega (arith, c .before .loop .inv .1, place-none (c .before .before .args .names .now) (c .before .loop .i) (c .before .before .args .name) (c .loop-test .left))
+
+pub place-of-spec : {M : Type 1} → statement M
+place-of-spec = tie.close (tie.spec Inv-loop μ-loop loop-holds (λ c. search needs) (λ c. search needs) returns (λ c. search needs) loop-less loop-again returns-2)

@@ -1,0 +1,160 @@
+-- The words of demand 3 (01, "Words of demand 3"), over the definitions that the contracts of the calls cite.
+-- A column is a place among the lent records. A leaf's column is the place where its call looks: `place`.
+use mathlib.Core.Logic.{_⊎_}
+use mathlib.Core.Path.{_≡_}
+use mathlib.Core.Bool.{Bool, true, false}
+use mathlib.Core.List.{List, [], _∷_}
+use Prim.Native.Nat.{ℕ, _<_}
+use lib.Dec.{T}
+use lib.ListN.{length, getD}
+use lib.Ieee.{Float, binary64, fits, le, eq}
+use Rattle.sedona_geometry.specs.Interval as interval
+use Rattle.sedona_geometry.specs.WraparoundInterval as wraparound
+use Rattle.sedona_geometry.specs.BoundingBox as boundingBox
+use Rattle.sedona_geometry.specs.declared.interval.Interval.{Interval}
+use Rattle.sedona_geometry.specs.declared.bounding_box.Dimension.{Dimension}
+use Rattle.sedona_geometry.specs.declared.bounding_box.Dimension as Dimension
+use Rattle.sedona_geometry.specs.declared.bounding_box.BoundingBox.{BoundingBox}
+use Rattle.sedona_expr.specs.Statistics.{All, fold}
+use Rattle.sedona_expr.specs.Statistics as statistics
+use Rattle.sedona_expr.specs.SpatialFilter.{Column, Filter, intersects, covers, and, or, literalFalse, unknown, Boxes, boxAt, Table, root, Lookup, byPosition, byName, place, refusal, evaluate, filterBbox}
+use Rattle.sedona_expr.specs.declared.statistics.Bbox as Bbox
+use Rattle.sedona_expr.specs.declared.statistics.Bbox.{Bbox}
+use Rattle.sedona_expr.specs.declared.statistics.GeoStatistics.{GeoStatistics}
+use Rattle.sedona_expr.specs.declared.spatial_filter.Evaluation as Evaluation
+use Rattle.sedona_expr.specs.declared.spatial_filter.Evaluation.{Evaluation}
+
+-- ---- rows and filters
+
+-- "A row gives each named column a box, its own box there; any other column has a box of it or none."
+abbrev pub Row : Type 0
+Row = ℕ → Bbox
+
+-- What is said of a box, where there is one. ("A column where the row has no box is left out.")
+abbrev pub WhereBox : (BoundingBox → Type 0) → Bbox → Type 0
+WhereBox P Bbox.Missing = Unit {0}
+WhereBox P (Bbox.Known b) = P b
+
+-- There is a box, and this is so of it.
+abbrev pub HasBox : (BoundingBox → Type 0) → Bbox → Type 0
+HasBox P Bbox.Missing = ⊥
+HasBox P (Bbox.Known b) = P b
+
+-- "any row of which it holds": Intersects where row box and literal have a common number in x, y, and in z and m where both have them; Covers
+-- where `contains` is true of row box and literal; And both, Or either, Unknown always, LiteralFalse never.
+abbrev pub Holds : (Column → Bbox) → Filter → Type 0
+Holds own (intersects c k) = HasBox (λ b. boundingBox.Common b k) (own c)
+Holds own (covers c k) = HasBox (λ b. boundingBox.contains b k ≡ true) (own c)
+Holds own (and f g) = Holds own f × Holds own g
+Holds own (or f g) = Holds own f ⊎ Holds own g
+Holds own literalFalse = ⊥
+Holds own unknown = Unit {0}
+
+-- Of every leaf: whether it is a Covers, its column and its literal.
+abbrev pub EachLeaf : (Bool → Column → BoundingBox → Type 0) → Filter → Type 0
+EachLeaf P (intersects c k) = P false c k
+EachLeaf P (covers c k) = P true c k
+EachLeaf P (and f g) = EachLeaf P f × EachLeaf P g
+EachLeaf P (or f g) = EachLeaf P f × EachLeaf P g
+EachLeaf P literalFalse = Unit {0}
+EachLeaf P unknown = Unit {0}
+
+-- ---- lists of records
+
+-- Some member of the list.
+abbrev pub Some : {A : Type 0} → (A → Type 0) → List A → Type 0
+Some P [] = ⊥
+Some P (x ∷ xs) = P x ⊎ Some P xs
+
+-- "Each named column has a list of its own, one record or more, repeats and missing boxes allowed."
+pub record Folds (rs : List GeoStatistics) (own lent : Bbox) : Type 0 where
+  -- Their ends are doubles.
+  pub doubles : All (λ s. statistics.DoublesWhereKnown (s .bbox)) rs
+  -- "the row's own box is among them"; it has one.
+  pub has : HasBox (λ b. Unit {0}) own
+  pub among : Some (λ s. s .bbox ≡ own) rs
+  -- "totals fit at every merge step": no step meets number 3
+  pub fit : fold rs .number ≡ 0
+  -- "the record of each named column being its fold"
+  pub folded : lent ≡ fold rs .rec .bbox
+
+abbrev pub lowToHigh : Interval → Bool
+lowToHigh i = le (i .lo) (i .hi)
+
+-- "under a Covers no record's x wraps or has NaN and the literal's x runs low to high"
+abbrev pub UnderCovers : Bool → List GeoStatistics → BoundingBox → Type 0
+UnderCovers false rs k = Unit {0}
+UnderCovers true rs k =
+    All (λ s. WhereBox (λ b. (wraparound.isWraparound (b .x) ≡ false) × (interval.hasNan (b .x .inner) ≡ false)) (s .bbox)) rs × (lowToHigh (k .x .inner) ≡ true)
+
+-- ---- the hypotheses
+
+-- Of the first half. (The column of a leaf is `place l c`.)
+pub record Wanted (l : Lookup) (t : Table) (r : Boxes) (row : Row) (lists : ℕ → List GeoStatistics) : Type 0 where
+  -- "well-formed tables": the lent inputs fit none of the numbers from 4 up
+  pub wellFormed : refusal l t r ≡ 0
+  -- "its named columns all existing": a record is lent for each
+  pub exist : EachLeaf (λ isCovers c k. place l c < length (r .flags)) (root t)
+  -- "any row of which it holds"
+  pub holds : Holds (λ c. row (place l c)) (root t)
+  -- "Whatever records each named column's list has .., if the row's own box is among them, totals fit at every merge step"
+  pub folds : EachLeaf (λ isCovers c k. Folds (lists (place l c)) (row (place l c)) (boxAt r (place l c))) (root t)
+  -- "and under a Covers no record's x wraps or has NaN and the literal's x runs low to high"
+  pub under : EachLeaf (λ isCovers c k. UnderCovers isCovers (lists (place l c)) k) (root t)
+
+-- Of an interval, where it is known.
+abbrev pub WhereKnown : (Interval → Type 0) → Dimension → Type 0
+WhereKnown P Dimension.Missing = Unit {0}
+WhereKnown P (Dimension.Known i) = P i
+
+-- Of x, y, and of z and m where they are known.
+pub record Each (P : Interval → Type 0) (b : BoundingBox) : Type 0 where
+  pub x : P (b .x .inner)
+  pub y : P (b .y)
+  pub z : WhereKnown P (b .z)
+  pub m : WhereKnown P (b .m)
+
+-- "A point has low equal to high in x, y and each of z and m that it knows"; "A NaN at either end counts as having NaN."
+abbrev pub isPoint : Interval → Type 0
+isPoint i = (eq (i .lo) (i .hi) ≡ true) × (interval.hasNan i ≡ false)
+
+-- "Every column has a name number": by name, it is the lent one.
+abbrev pub Numbers : Lookup → List ℕ → Type 0
+Numbers byPosition names = Unit {0}
+Numbers (byName ns) names = names ≡ ns
+
+-- Of the second half.
+pub record Pointed (l : Lookup) (t : Table) (r : Boxes) (row : Row) (names : List ℕ) : Type 0 where
+  pub numbers : Numbers l names
+  pub count : length names ≡ length (r .flags)
+  -- the ends are doubles
+  pub literals : All (λ d. T (fits binary64 d)) (t .literals .doubles)
+  pub doubles : (i : ℕ) → i < length names → WhereBox boundingBox.Doubles (row i)
+  -- "the row is a point without NaN"
+  pub point : (i : ℕ) → i < length names → WhereBox (Each isPoint) (row i)
+  -- "each leaf names its own column"
+  pub ownNames : EachLeaf (λ isCovers c k. c .name ≡ getD names (place l c) 0) (root t)
+  -- "names differ": no two columns share a number
+  pub differ : (i j : ℕ) → i < length names → j < length names → getD names i 0 ≡ getD names j 0 → i ≡ j
+  -- "all literals run low to high": every known dimension of every literal that a leaf names
+  pub lowToHigh : EachLeaf (λ isCovers c k. Each (λ i. lowToHigh i ≡ true) k) (root t)
+
+-- ---- the conclusions
+
+-- "then the filter held against these folds answers 'may match'"
+abbrev pub MayMatch : Lookup → Table → Boxes → Type 0
+MayMatch l t r = _≡_ {A = Evaluation} (evaluate l t r) Evaluation.MayMatch
+
+-- "then `contains` is true of each column's filter box and the row's box there"
+abbrev pub Reaches : Table → Row → List ℕ → Type 0
+Reaches t row names =
+    (i : ℕ)
+    → i < length names
+    → WhereBox (λ b. (filterBbox t (getD names i 0) .number ≡ 0) × (boundingBox.contains (filterBbox t (getD names i 0) .bounds) b ≡ true)) (row i)
+
+-- Demand 3, undivided.
+abbrev pub Demand3 : Type 0
+Demand3 =
+    (l : Lookup) (t : Table) (r : Boxes) (row : Row) (lists : ℕ → List GeoStatistics)
+    → Wanted l t r row lists
+    → MayMatch l t r × ((names : List ℕ) → Pointed l t r row names → Reaches t row names)
