@@ -5,6 +5,7 @@ pub mod Instances
 pub mod Leaves
 pub mod Marked
 pub mod MayMatch
+pub mod Needed
 pub mod Points
 pub mod Reaches
 pub mod Refusals

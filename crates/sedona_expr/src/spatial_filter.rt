@@ -1,6 +1,10 @@
 // Filters held against the boxes of columns, after spatial_filter.rs. A filter comes as a table of
-// nodes, four words each: a kind and three more; the last node is the root. Boxes come as eight
-// doubles each, low and high of x, y, z, m, and a flag byte: 1 box, 2 z known, 4 m known.
+// nodes, four words each; the last node is the root. The words are a kind and three more:
+//   0 Intersects, 1 Covers   column index, name number, literal number
+//   3 And, 4 Or              left node, right node, unread
+//   5 LiteralFalse, 6 Unknown   unread
+// and 2, HasZ, is refused. Boxes, the literals and the columns' records, come as eight doubles each,
+// low and high of x, y, z, m, and a flag byte: 1 box, 2 z known, 4 m known.
 ghost use mathlib.Core.Path.{_≡_};
 ghost use mathlib.Core.Bool.{_&&_, _||_};
 ghost use Prim.Native.Nat.{_≤_, _+_, _*_};
@@ -67,7 +71,7 @@ fn word(nodes: &[u32], node: u32, k: u32) -> u32
     if at < nodes.len() { nodes[at] } else { 0 }
 }
 
-// The interval of two doubles from a place on.
+// Interval k, of x, y, z, m, of the box at a place.
 fn interval_at(doubles: &[f64], place: usize, k: usize) -> Interval
     requires { ⌜ (8 * place + 8 ≤ length (now doubles)) × (k ≤ 3) ⌝ }
     ensures { λ r. ⌜ r ≡ filter.intervalAt (now (doubles .entry)) place k ⌝ }
