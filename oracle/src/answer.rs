@@ -14,8 +14,10 @@ pub struct Answer(Vec<Part>);
 
 enum Part {
     Bool(bool),
+    /// Whether a filter may match.
+    Match(bool),
     Double(f64),
-    /// A count, a type set by its bits, or the number before a record.
+    /// A count, a type set by its bits, or the number before a record or a box.
     Integer(u64),
     /// A total of a record.
     Total(i64),
@@ -33,6 +35,8 @@ impl Part {
     fn text(&self) -> Option<String> {
         match self {
             Part::Bool(value) => Some(value.to_string()),
+            Part::Match(true) => Some("may match".to_string()),
+            Part::Match(false) => Some("cannot match".to_string()),
             Part::Double(value) => Some(text::write(*value)),
             Part::Integer(value) => Some(value.to_string()),
             Part::Total(value) => Some(value.to_string()),
@@ -45,7 +49,7 @@ impl Part {
     /// A word: of a double its bits, where every NaN counts as one and so do the two zeros.
     fn word(&self) -> u64 {
         match self {
-            Part::Bool(value) => u64::from(*value),
+            Part::Bool(value) | Part::Match(value) => u64::from(*value),
             Part::Double(value) if value.is_nan() => 0x7ff8_0000_0000_0000,
             Part::Double(0.0) => 0,
             Part::Double(value) => value.to_bits(),
@@ -73,6 +77,21 @@ impl Answer {
         let number = if record.is_some() { 0 } else { LEAVES_RANGE };
         let record = record.unwrap_or(otherwise);
         Answer::joined([Answer(vec![Part::Integer(number)]), record.into()])
+    }
+
+    /// Whether a filter may match, or the number that refuses it.
+    pub fn matched(result: Result<bool, u64>) -> Answer {
+        match result {
+            Ok(value) => Answer(vec![Part::NotRefused, Part::Match(value)]),
+            Err(number) => Answer(vec![Part::Refused(number)]),
+        }
+    }
+
+    /// The number 0 and a box; or the number that refuses it, and an empty one.
+    pub fn boxed(result: Result<BoundingBox, u64>) -> Answer {
+        let number = result.as_ref().map_or_else(|number| *number, |_| 0);
+        let bounds = result.unwrap_or_else(|_| BoundingBox::empty());
+        Answer::joined([Answer(vec![Part::Integer(number)]), bounds.into()])
     }
 
     fn joined(answers: impl IntoIterator<Item = Answer>) -> Answer {

@@ -1,9 +1,13 @@
 //! Answers a case file line by line. `CALL V V ..` is one case, `sweep CALL` makes the call with
 //! every tuple of operands from the last lines `values V V ..`, `intervals LO HI ..` and
-//! `sets S S ..`, and `folds SEED COUNT` folds drawn lists of records. Comments and empty lines are
-//! copied.
+//! `sets S S ..`, and `folds SEED COUNT` folds drawn lists of records. A filter call is over the
+//! tables of the last lines `nodes W W ..` and so on, and `filters SEED COUNT` makes the calls over
+//! drawn tables. Comments and empty lines are copied.
 
+use crate::answer::Digest;
 use crate::calls::{Call, fold_lists};
+use crate::filter_draws;
+use crate::filters::{Lookup, Tables, filter_tables};
 use crate::operands::Lists;
 use crate::text::read_set;
 
@@ -12,6 +16,7 @@ pub fn answers(calls: &[Call], cases: &str) -> String {
     let mut reader = Reader {
         calls,
         lists: Lists::default(),
+        tables: Tables::default(),
     };
     let answered = cases
         .split_terminator('\n')
@@ -33,6 +38,7 @@ enum Line {
 struct Reader<'a> {
     calls: &'a [Call],
     lists: Lists,
+    tables: Tables,
 }
 
 impl Reader<'_> {
@@ -46,11 +52,39 @@ impl Reader<'_> {
             ["intervals", ref words @ ..] => return copied(self.lists.set_intervals(words)),
             ["sets", ref words @ ..] => return copied(self.lists.set_sets(words)),
             ["sweep", name] => self.sweep(name),
-            ["folds", seed, count] => folds(seed, count),
-            [name, ref operands @ ..] => self.single(name, operands),
+            ["folds", seed, count] => drawn(fold_lists, seed, count),
+            ["filters", seed, count] => drawn(filter_tables, seed, count),
+            ["chain", words] => return copied(self.chain(words)),
+            ["draw", seed] => return copied(self.draw(seed)),
+            [name, ref operands @ ..] if !name.contains(':') => {
+                return copied(self.tables.set(name, operands));
+            }
+            [name, ref operands @ ..] => self
+                .filter(name, operands)
+                .or_else(|| self.single(name, operands)),
             [] => None,
         };
         answer.map_or(Line::Unknown, Line::Answered)
+    }
+
+    fn chain(&mut self, words: &str) -> Option<()> {
+        self.tables.set_chain(read_set(words)? as usize)
+    }
+
+    fn draw(&mut self, seed: &str) -> Option<()> {
+        self.tables = filter_draws::tables(read_set(seed)?);
+        Some(())
+    }
+
+    /// A call over the tables.
+    fn filter(&self, name: &str, operands: &[&str]) -> Option<String> {
+        let answer = match (name.strip_prefix("SpatialFilter::")?, operands) {
+            ("evaluate_by_position", []) => self.tables.evaluate(Lookup::ByPosition),
+            ("evaluate_by_name", []) => self.tables.evaluate(Lookup::ByName),
+            ("filter_bbox", [name]) => self.tables.filter_bbox(read_set(name)?),
+            _ => return None,
+        };
+        Some(answer.text())
     }
 
     fn sweep(&self, name: &str) -> Option<String> {
@@ -68,9 +102,10 @@ impl Reader<'_> {
     }
 }
 
-fn folds(seed: &str, count: &str) -> Option<String> {
+/// How many were drawn, and the digest of what they gave.
+fn drawn(digest: fn(u32, u32) -> Digest, seed: &str, count: &str) -> Option<String> {
     let (seed, count) = (read_set(seed)?, read_set(count)?);
-    Some(format!("{count} {}", fold_lists(seed, count)))
+    Some(format!("{count} {}", digest(seed, count)))
 }
 
 /// A line with a list that was taken, or was none.

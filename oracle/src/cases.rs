@@ -34,6 +34,9 @@ const SETS: [u32; 22] = [
 /// Lists of records to fold: the seed of the first, and how many.
 const FOLDS: [[u32; 2]; 3] = [[1, 10_000], [0x4000_0000, 10_000], [u32::MAX, 2]];
 
+/// Tables of filters to draw: the seed of the first, and how many.
+const FILTERS: [[u32; 2]; 3] = [[1, 20_000], [0x4000_0000, 20_000], [u32::MAX, 2]];
+
 /// The names that singles.txt has for doubles.
 const NAMED: [(&str, f64); 7] = [
     ("MAX", f64::MAX),
@@ -48,19 +51,25 @@ const NAMED: [(&str, f64); 7] = [
 const HEADER: &str = "\
 # The cases of the replay program, as `oracle cases` writes them.
 # First each call with every tuple of operands from the three lists, but for calls with records, which
-# are in no list; then folds of drawn lists of records; then single cases.
+# are in no list; then folds of drawn lists of records and filters over drawn tables; then single cases.
 ";
 
-/// The case file: a sweep of every call whose operands are listed, the folds, and the cases of
-/// singles.txt.
+/// The case file: a sweep of every call whose operands are listed, the folds, the filters, and the
+/// cases of singles.txt and filters.txt.
 pub fn cases(calls: &[Call]) -> String {
     let sweeps: String = calls
         .iter()
         .filter(|call| call.operands.iter().all(|kind| kind.is_listed()))
         .map(|call| format!("sweep {}\n", call.name))
         .collect();
-    let folds = FOLDS.map(|numbers| write_line("folds", &numbers.map(|n| n.to_string())));
-    [HEADER, &list_lines(), &sweeps, &folds.concat(), &singles()].concat()
+    let folds = FOLDS.map(|numbers| drawn("folds", numbers)).concat();
+    let filters = FILTERS.map(|numbers| drawn("filters", numbers)).concat();
+    let singles = singles();
+    [HEADER, &list_lines(), &sweeps, &folds, &filters, &singles].concat()
+}
+
+fn drawn(name: &str, numbers: [u32; 2]) -> String {
+    write_line(name, &numbers.map(|number| number.to_string()))
 }
 
 /// The lines that set what sweeps go over.
@@ -74,7 +83,8 @@ pub fn list_lines() -> String {
 }
 
 fn singles() -> String {
-    let lines = include_str!("singles.txt").lines();
+    let files = [include_str!("singles.txt"), include_str!("filters.txt")];
+    let lines = files.into_iter().flat_map(str::lines);
     lines.map(|line| spelled(line) + "\n").collect()
 }
 

@@ -36,29 +36,33 @@ const EXTENTS_OF_NOTE: [f64; 4] = [INF, -INF, NAN, 1e308];
 /// The list drawn from a seed. Its mood says which parts its records lack, and which values they
 /// have.
 pub fn list(seed: u32) -> Vec<GeoStatistics> {
-    let mut draws = Draws {
-        state: seed,
-        mood: 0,
-    };
+    let mut draws = Draws::new(seed);
     let count = draws.below(MOST_RECORDS + 1);
     draws.mood = draws.below(16);
     (0..count).map(|_| draws.record()).collect()
 }
 
-struct Draws {
+pub struct Draws {
     state: u32,
-    mood: u32,
+    pub mood: u32,
 }
 
 impl Draws {
+    pub fn new(seed: u32) -> Draws {
+        Draws {
+            state: seed,
+            mood: 0,
+        }
+    }
+
     /// The next draw: a number below 2^16.
-    fn draw(&mut self) -> u32 {
+    pub fn draw(&mut self) -> u32 {
         let next = u64::from(self.state) * 1_664_525 + 1_013_904_223;
         self.state = next as u32;
         self.state >> 16
     }
 
-    fn below(&mut self, bound: u32) -> u32 {
+    pub fn below(&mut self, bound: u32) -> u32 {
         self.draw() % bound
     }
 
@@ -94,7 +98,7 @@ impl Draws {
     }
 
     /// An interval of the list, moved.
-    fn interval(&mut self) -> Interval {
+    pub fn interval(&mut self) -> Interval {
         let place = self.below(DOWN_TO[self.mood as usize / 4]);
         let [lo, hi] = INTERVALS[place as usize];
         let by = self.tenths();

@@ -5,9 +5,12 @@ mod answers;
 mod calls;
 mod cases;
 mod draws;
+mod filter_draws;
+mod filters;
 mod operands;
 mod random;
 mod records;
+mod refusals;
 mod text;
 
 use std::io::{self, Write};

@@ -1,9 +1,13 @@
 //! Random cases over all calls.
 
 use crate::calls::Call;
+use crate::filter_draws::NAMES;
 use crate::operands::{Kind, MISSING};
 use crate::records::TOTALS;
 use crate::text::{write_line, write_operands};
+
+/// Filter calls, which are not in the table of calls.
+const FILTER_CALLS: usize = 3;
 
 /// `count` cases, the same ones for the same seed. Doubles of note are drawn from `values`.
 pub fn cases(calls: &[Call], values: &[f64], seed: u64, count: usize) -> String {
@@ -11,10 +15,12 @@ pub fn cases(calls: &[Call], values: &[f64], seed: u64, count: usize) -> String 
         state: seed,
         values,
     };
-    let cases = (0..count).map(|_| {
-        let call = &calls[random.below(calls.len())];
-        write_line(&call.name, &random.words(&call.operands))
-    });
+    let cases = (0..count).map(
+        |_| match calls.get(random.below(calls.len() + FILTER_CALLS)) {
+            Some(call) => write_line(&call.name, &random.words(&call.operands)),
+            None => random.filter_case(),
+        },
+    );
     cases.collect()
 }
 
@@ -55,6 +61,28 @@ impl Random<'_> {
             rest = others;
         }
         words
+    }
+
+    /// The filter calls over drawn tables, half of the time with boxes from here.
+    fn filter_case(&mut self) -> String {
+        let mut lines = write_line("draw", &[(self.bits() as u32).to_string()]);
+        if self.below(2) == 0 {
+            lines += &self.boxes("records", "record_flags", &[0, 1, 3, 5, 7]);
+            lines += &self.boxes("literals", "literal_flags", &[1, 3, 5, 7]);
+            let first = self.below(NAMES as usize) as u32;
+            let names = [0, 1, 2, 3, 4].map(|place| ((first + place) % NAMES).to_string());
+            lines += &write_line("names", &names);
+        }
+        lines += "SpatialFilter::evaluate_by_position\nSpatialFilter::evaluate_by_name\n";
+        let name = self.below(NAMES as usize).to_string();
+        lines + &write_line("SpatialFilter::filter_bbox", &[name])
+    }
+
+    /// Five boxes, and their flags.
+    fn boxes(&mut self, ends: &str, flags: &str, good: &[u8]) -> String {
+        let doubles = self.doubles(5 * Kind::Box.width(), Kind::Box.width());
+        let drawn = [(); 5].map(|()| good[self.below(good.len())].to_string());
+        write_line(ends, &write_operands(&doubles)) + &write_line(flags, &drawn)
     }
 
     /// Doubles, two and two shaped as intervals. Of a second operand, which comes behind a `first`

@@ -7,6 +7,8 @@ use crate::write::bits;
 use crate::write::put_double;
 use crate::write::put_total;
 use crate::write::total_bits;
+use sedona_expr::spatial_filter::Evaluation;
+use sedona_expr::spatial_filter::FilterBox;
 use sedona_expr::statistics::Bbox;
 use sedona_expr::statistics::Extent;
 use sedona_expr::statistics::GeoStatistics;
@@ -120,7 +122,7 @@ fn put_ends(out: &mut Buffer, filled: usize, i: Interval) -> usize {
 }
 
 // Puts the ends of x, y, z and m.
-fn put_box(out: &mut Buffer, filled: usize, b: BoundingBox) -> usize {
+pub fn put_box(out: &mut Buffer, filled: usize, b: BoundingBox) -> usize {
     let x = b.x;
     let z = b.z;
     let m = b.m;
@@ -254,6 +256,21 @@ impl Digest {
     pub fn with_merged(self, merged: Merged) -> Digest {
         let rec = merged.rec;
         self.with_word(merged.number as u64).with_statistics(rec)
+    }
+
+    // With the answer of a filter more.
+    pub fn with_evaluation(self, evaluation: Evaluation) -> Digest {
+        match evaluation {
+            Evaluation::MayMatch => self.with_word(0).with_word(1),
+            Evaluation::CannotMatch => self.with_word(0).with_word(0),
+            Evaluation::Refused(number) => self.with_word(number as u64),
+        }
+    }
+
+    // With the number and the box of a filter more.
+    pub fn with_filter_box(self, filter_box: FilterBox) -> Digest {
+        let bounds = filter_box.bounds;
+        self.with_word(filter_box.number as u64).with_box(bounds)
     }
 
     // With a record more: its parts.

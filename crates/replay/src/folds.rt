@@ -1,5 +1,8 @@
 // Folds of lists of records: given ones, and ones drawn from a seed as the oracle draws them.
 use crate::answer::Digest;
+use crate::draws::draw;
+use crate::draws::interval;
+use crate::draws::tenths;
 use crate::lent::folded;
 use crate::reply::Swept;
 use sedona_expr::statistics::Bbox;
@@ -10,7 +13,6 @@ use sedona_expr::statistics::Merged;
 use sedona_expr::statistics::Total;
 use sedona_geometry::bounding_box::BoundingBox;
 use sedona_geometry::bounding_box::Dimension;
-use sedona_geometry::interval::Interval;
 use sedona_geometry::interval::WraparoundInterval;
 use sedona_geometry::types::GeometryTypeAndDimensionsSet;
 
@@ -61,13 +63,6 @@ pub fn fold_drawn(seed: u32) -> Merged {
         list[i] = record(&mut state, mood);
     }
     fold_list(list, count)
-}
-
-// The next draw: a number below 2^16.
-fn draw(state: &mut u32) -> usize {
-    let next = (*state as u64 * 1_664_525 + 1_013_904_223) % 0x1_0000_0000;
-    *state = next as u32;
-    (next / 0x1_0000) as usize
 }
 
 // A record, part by part.
@@ -122,46 +117,6 @@ fn dimension(state: &mut u32, mood: usize) -> Dimension {
         return Dimension::Missing;
     }
     Dimension::Known(interval(state, mood))
-}
-
-// An interval of a table, moved. First come plain ones, then wrapped ones, then those with an end
-// that is no number; the mood says how far down the table.
-fn interval(state: &mut u32, mood: usize) -> Interval {
-    let inf = 1.0 / 0.0;
-    let nan = 0.0 / 0.0;
-    let table = [
-        [0.0, 10.0],
-        [-5.0, 5.0],
-        [100.0, 175.0],
-        [-180.0, -100.0],
-        [170.0, -170.0],
-        [20.0, 5.0],
-        [90.0, -90.0],
-        [1.0, 0.0],
-        [inf, -inf],
-        [-inf, inf],
-        [-inf, 5.0],
-        [5.0, inf],
-        [nan, 5.0],
-        [5.0, nan],
-        [nan, nan],
-        [inf, inf],
-    ];
-    let n = draw(state);
-    let place = match mood / 4 {
-        0 => n % 4,
-        1 => n % 6,
-        2 => n % 8,
-        _ => n % 16,
-    };
-    let ends = table[place % 16];
-    let by = tenths(state);
-    Interval::new(ends[0] + by, ends[1] + by)
-}
-
-// A number from 0 on in steps of a tenth, rounded.
-fn tenths(state: &mut u32) -> f64 {
-    std::num::nearest_u64_to_f64((draw(state) % 256) as u64) / 10.0
 }
 
 // A type set: empty, or of one type.

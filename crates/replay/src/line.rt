@@ -1,6 +1,7 @@
 // The lines of a case file: comments are copied; `values V V ..`, `intervals LO HI ..` and
-// `sets S S ..` set the lists that sweeps go over; `sweep CALL`, `folds SEED COUNT` and
-// `CALL V V ..` are answered.
+// `sets S S ..` set the lists that sweeps go over; `nodes W W ..`, `literals D D ..` and so on set
+// the tables of filter calls, as do `chain COUNT` and `draw SEED`; `sweep CALL`,
+// `folds SEED COUNT`, `filters SEED COUNT` and `CALL V V ..` are answered.
 use crate::answer::Answer;
 use crate::boxes::BOX;
 use crate::boxes::MOST_INTERVALS;
@@ -13,6 +14,10 @@ use crate::calls::make;
 use crate::calls::make_of_boxes;
 use crate::calls::make_of_records;
 use crate::calls::make_of_sets;
+use crate::filter_draws::draw_tables;
+use crate::filters::bbox_of;
+use crate::filters::evaluate;
+use crate::filters::filter_tables;
 use crate::folds::fold_drawn;
 use crate::folds::fold_lists;
 use crate::records::are_records;
@@ -21,6 +26,11 @@ use crate::records::second_record;
 use crate::reply::Reply;
 use crate::sweep::sweep;
 use crate::sweep::sweep_of_records;
+use crate::tables::MOST_NODE_WORDS;
+use crate::tables::Nodes;
+use crate::tables::Tables;
+use crate::tables::set_chain;
+use crate::tables::set_nodes;
 use crate::words::Lists;
 use crate::words::Words;
 use crate::words::read_words;
@@ -32,16 +42,37 @@ pub const SIZE: usize = 1024;
 
 pub type Line = [u8; SIZE];
 
-// What becomes of a line: the reply to it, and the lists that later sweeps go over.
+// What lines leave for later ones: the lists that sweeps go over, and the tables of filter calls.
+pub struct Kept {
+    lists: Lists,
+    tables: Tables,
+}
+
+impl Kept {
+    // Before the first line.
+    pub fn none() -> Kept {
+        Kept {
+            lists: Lists::none(),
+            tables: Tables::none(),
+        }
+    }
+}
+
+// What becomes of a line: the reply to it, and what is kept from then on.
 pub struct Outcome {
     pub reply: Reply,
-    pub lists: Lists,
+    pub kept: Kept,
 }
 
 impl Outcome {
-    // A reply with the lists from then on.
-    fn new(reply: Reply, lists: Lists) -> Outcome {
-        Outcome { reply, lists }
+    // A reply with what is kept.
+    fn new(reply: Reply, kept: Kept) -> Outcome {
+        Outcome { reply, kept }
+    }
+
+    // No answer.
+    fn unknown(kept: Kept) -> Outcome {
+        Outcome::new(Reply::Answer(Answer::Unknown), kept)
     }
 }
 
@@ -55,47 +86,115 @@ pub fn push(line: &mut Line, length: usize, byte: u8) -> usize {
 }
 
 // What becomes of a line of this length.
-pub fn outcome_of(line: &Line, length: usize, lists: Lists) -> Outcome {
+pub fn outcome_of(line: &Line, length: usize, kept: Kept, nodes: &mut Nodes) -> Outcome {
     if length == 0 || line[0] == b'#' {
-        return Outcome::new(Reply::Nothing, lists);
+        return Outcome::new(Reply::Nothing, kept);
     }
     let bytes = &line[..];
     if length < bytes.len() {
-        return outcome_of_case(&bytes[0..length], lists);
+        return outcome_of_case(&bytes[0..length], kept, nodes);
     }
-    Outcome::new(Reply::Answer(Answer::Unknown), lists)
+    Outcome::unknown(kept)
 }
 
 // What becomes of a line that is no comment.
-fn outcome_of_case(line: &[u8], lists: Lists) -> Outcome {
+fn outcome_of_case(line: &[u8], kept: Kept, nodes: &mut Nodes) -> Outcome {
     let end = find(line, 0, line.len(), b' ');
     let first = &line[0..end];
+    let lists = kept.lists;
     if same(first, b"sweep") {
-        return Outcome::new(reply_to_sweep(&line[end..], lists), lists);
+        return Outcome::new(reply_to_sweep(&line[end..], lists), kept);
     }
     let words = read_words(line, end);
     if same(first, b"values") {
-        return set_list(words.are_doubles, lists.with_values(words), lists);
+        return set_list(words.are_doubles, lists.with_values(words), kept);
     }
     if same(first, b"intervals") {
-        return set_list(are_intervals(words), lists.with_intervals(words), lists);
+        return set_list(are_intervals(words), lists.with_intervals(words), kept);
     }
     if same(first, b"sets") {
-        return set_list(words.are_sets, lists.with_sets(words), lists);
+        return set_list(words.are_sets, lists.with_sets(words), kept);
     }
     if same(first, b"folds") {
-        return Outcome::new(reply_to_folds(words), lists);
+        return Outcome::new(reply_to_folds(words), kept);
     }
-    Outcome::new(reply_to(call_named(first), words), lists)
+    if same(first, b"filters") {
+        return Outcome::new(reply_to_filters(words), kept);
+    }
+    outcome_of_tables(first, words, kept, nodes)
 }
 
 // A line with a list, which takes the place of the old where it is good.
-fn set_list(is_good: bool, new: Lists, old: Lists) -> Outcome {
-    if is_good {
-        Outcome::new(Reply::Nothing, new)
-    } else {
-        Outcome::new(Reply::Answer(Answer::Unknown), old)
+fn set_list(is_good: bool, lists: Lists, old: Kept) -> Outcome {
+    if !is_good {
+        return Outcome::unknown(old);
     }
+    let mut kept = old;
+    kept.lists = lists;
+    Outcome::new(Reply::Nothing, kept)
+}
+
+// What becomes of a line that sets a table, or of a single case.
+fn outcome_of_tables(first: &[u8], words: Words, kept: Kept, nodes: &mut Nodes) -> Outcome {
+    let tables = kept.tables;
+    if same(first, b"literals") {
+        return set_tables(words.are_doubles, tables.with_literals(words), kept);
+    }
+    if same(first, b"literal_flags") {
+        return set_tables(words.are_flags, tables.with_literal_flags(words), kept);
+    }
+    if same(first, b"records") {
+        return set_tables(words.are_doubles, tables.with_records(words), kept);
+    }
+    if same(first, b"record_flags") {
+        return set_tables(words.are_flags, tables.with_record_flags(words), kept);
+    }
+    if same(first, b"names") {
+        return set_tables(words.are_sets, tables.with_names(words), kept);
+    }
+    outcome_of_nodes(first, words, kept, nodes)
+}
+
+// A line with a table, in the same way.
+fn set_tables(is_good: bool, tables: Tables, old: Kept) -> Outcome {
+    if !is_good {
+        return Outcome::unknown(old);
+    }
+    let mut kept = old;
+    kept.tables = tables;
+    Outcome::new(Reply::Nothing, kept)
+}
+
+// What becomes of a line that sets the nodes, or of a single case.
+fn outcome_of_nodes(first: &[u8], words: Words, kept: Kept, nodes: &mut Nodes) -> Outcome {
+    let tables = kept.tables;
+    if same(first, b"nodes") {
+        if words.are_sets {
+            set_nodes(nodes, words.sets);
+        }
+        return set_tables(words.are_sets, tables.with_node_words(words.count), kept);
+    }
+    let number = words.sets[0];
+    if same(first, b"chain") {
+        let count = number as usize;
+        let is_good = is_number(words) && count <= MOST_NODE_WORDS;
+        if is_good {
+            set_chain(nodes);
+        }
+        return set_tables(is_good, tables.with_node_words(count), kept);
+    }
+    if same(first, b"draw") {
+        if !is_number(words) {
+            return Outcome::unknown(kept);
+        }
+        return set_tables(true, draw_tables(number, nodes), kept);
+    }
+    Outcome::new(reply_to_case(first, words, tables, nodes), kept)
+}
+
+// Whether there is one word, a number.
+fn is_number(words: Words) -> bool {
+    words.are_sets && words.count == 1
 }
 
 // Whether words are the ends of intervals, and of no more than a list has.
@@ -127,7 +226,30 @@ fn reply_to_folds(words: Words) -> Reply {
     }
 }
 
-// A single case.
+// A `filters` line: the first seed, and how many tables.
+fn reply_to_filters(words: Words) -> Reply {
+    if words.are_sets && words.count == 2 {
+        Reply::Swept(filter_tables(words.sets[0], words.sets[1]))
+    } else {
+        Reply::Answer(Answer::Unknown)
+    }
+}
+
+// A single case, over the tables or by its operands.
+fn reply_to_case(first: &[u8], words: Words, tables: Tables, nodes: &Nodes) -> Reply {
+    if words.count == 0 && same(first, b"SpatialFilter::evaluate_by_position") {
+        return Reply::Evaluation(evaluate(nodes, tables, false));
+    }
+    if words.count == 0 && same(first, b"SpatialFilter::evaluate_by_name") {
+        return Reply::Evaluation(evaluate(nodes, tables, true));
+    }
+    if is_number(words) && same(first, b"SpatialFilter::filter_bbox") {
+        return Reply::FilterBox(bbox_of(nodes, tables, words.sets[0]));
+    }
+    reply_to(call_named(first), words)
+}
+
+// A single case by its operands.
 fn reply_to(call: Call, words: Words) -> Reply {
     if words.count != call.operands {
         return Reply::Answer(Answer::Unknown);

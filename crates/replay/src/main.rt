@@ -4,6 +4,9 @@ mod answer;
 mod boxes;
 mod calls;
 mod digits;
+mod draws;
+mod filter_draws;
+mod filters;
 mod folds;
 mod lent;
 mod line;
@@ -12,10 +15,12 @@ mod read;
 mod records;
 mod reply;
 mod sweep;
+mod tables;
 mod words;
 mod write;
 
 use libc::STDIN_FILENO;
+use line::Kept;
 use line::Line;
 use line::SIZE;
 use line::outcome_of;
@@ -24,12 +29,13 @@ use output::Buffer;
 use output::flush;
 use output::put;
 use reply::put_reply;
-use words::Lists;
+use tables::MOST_NODE_WORDS;
+use tables::Nodes;
 
 // What is kept from one byte of the input to the next.
 struct State {
-    // What sweeps go over.
-    lists: Lists,
+    // What lines left for later ones.
+    kept: Kept,
     // How long the line is so far.
     length: usize,
     // How much of the output buffer is filled.
@@ -42,7 +48,7 @@ impl State {
     // Before the first byte.
     fn new() -> State {
         State {
-            lists: Lists::none(),
+            kept: Kept::none(),
             length: 0,
             filled: 0,
             is_over: false,
@@ -54,26 +60,27 @@ impl State {
 fn main() {
     let mut line = [0u8; SIZE];
     let mut out = io::large_buffer();
-    run(&mut line, &mut out);
+    let mut nodes = [0; MOST_NODE_WORDS];
+    run(&mut line, &mut out, &mut nodes);
 }
 
 // Takes the whole input. Nothing says that it ends, and a proved loop has to: so the loop counts
 // its turns down, from a number that no run uses up.
-fn run(line: &mut Line, out: &mut Buffer) {
+fn run(line: &mut Line, out: &mut Buffer, nodes: &mut Nodes) {
     let mut state = State::new();
     let mut turns = u64::MAX;
     while turns > 0 && !state.is_over {
-        state = take_chunk(state, line, out);
+        state = take_chunk(state, line, out, nodes);
         turns -= 1;
     }
     if state.length > 0 {
-        state = end_line(state, line, out);
+        state = end_line(state, line, out, nodes);
     }
     flush(out, state.filled);
 }
 
 // Reads once, and takes what came.
-fn take_chunk(before: State, line: &mut Line, out: &mut Buffer) -> State {
+fn take_chunk(before: State, line: &mut Line, out: &mut Buffer, nodes: &mut Nodes) -> State {
     let mut chunk = io::large_buffer();
     let got = libc::read(STDIN_FILENO, &mut chunk);
     let count = io::count(got, &chunk);
@@ -82,16 +89,22 @@ fn take_chunk(before: State, line: &mut Line, out: &mut Buffer) -> State {
         state.is_over = true;
         return state;
     }
-    take_bytes(&chunk[..count], before, line, out)
+    take_bytes(&chunk[..count], before, line, out, nodes)
 }
 
 // Copies the bytes, and replies to each line that they end.
-fn take_bytes(bytes: &[u8], before: State, line: &mut Line, out: &mut Buffer) -> State {
+fn take_bytes(
+    bytes: &[u8],
+    before: State,
+    line: &mut Line,
+    out: &mut Buffer,
+    nodes: &mut Nodes,
+) -> State {
     let mut state = before;
     for i in 0..bytes.len() {
         let byte = bytes[i];
         if byte == b'\n' {
-            state = end_line(state, line, out);
+            state = end_line(state, line, out, nodes);
         } else {
             state.length = push(line, state.length, byte);
             state.filled = put(out, state.filled, byte);
@@ -101,13 +114,13 @@ fn take_bytes(bytes: &[u8], before: State, line: &mut Line, out: &mut Buffer) ->
 }
 
 // Puts the reply to a line, and the line's end.
-fn end_line(before: State, line: &Line, out: &mut Buffer) -> State {
-    let outcome = outcome_of(line, before.length, before.lists);
+fn end_line(before: State, line: &Line, out: &mut Buffer, nodes: &mut Nodes) -> State {
+    let outcome = outcome_of(line, before.length, before.kept, nodes);
     let reply = outcome.reply;
-    let lists = outcome.lists;
+    let kept = outcome.kept;
     let at = put_reply(out, before.filled, reply);
     State {
-        lists,
+        kept,
         length: 0,
         filled: put(out, at, b'\n'),
         is_over: before.is_over,

@@ -7,6 +7,7 @@ use crate::read::read_set;
 use crate::read::read_total;
 use bytes::scan::find;
 use check::same;
+use sedona_geometry::interval::Interval;
 
 // The most words that a line can have behind its first.
 pub const MOST_WORDS: usize = 40;
@@ -24,30 +25,34 @@ pub const EXTENTS: usize = 16;
 pub struct Words {
     pub doubles: [f64; MOST_WORDS],
     pub sets: [u32; MOST_WORDS],
+    pub flags: [u8; MOST_WORDS],
     pub totals: [i64; MOST_WORDS],
     // Whether a word is `-`, the mark of what is missing.
     pub is_missing: [bool; MOST_WORDS],
     pub count: usize,
-    // Whether each word is a double; a double or a mark; a type set; what its place in a record
-    // asks, or a mark. None of it is where there is a word too many.
+    // Whether each word is a double; a double or a mark; a type set; a flag; what its place in a
+    // record asks, or a mark. None of it is where there is a word too many.
     pub are_doubles: bool,
     pub are_ends: bool,
     pub are_sets: bool,
+    pub are_flags: bool,
     pub are_parts: bool,
 }
 
 impl Words {
     // No words.
-    fn none() -> Words {
+    pub fn none() -> Words {
         Words {
             doubles: [0.0; MOST_WORDS],
             sets: [0; MOST_WORDS],
+            flags: [0; MOST_WORDS],
             totals: [0; MOST_WORDS],
             is_missing: [false; MOST_WORDS],
             count: 0,
             are_doubles: true,
             are_ends: true,
             are_sets: true,
+            are_flags: true,
             are_parts: true,
         }
     }
@@ -61,6 +66,7 @@ impl Words {
             words.are_doubles = false;
             words.are_ends = false;
             words.are_sets = false;
+            words.are_flags = false;
             words.are_parts = false;
             return words;
         }
@@ -70,9 +76,12 @@ impl Words {
         let mut is_part = is_missing;
         if let TypeSet::Bits(bits) = read_set(word) {
             words.sets[at] = bits;
+            words.flags[at] = (bits % 256) as u8;
+            words.are_flags = words.are_flags && bits < 256;
             is_part = is_part || place == TYPES;
         } else {
             words.are_sets = false;
+            words.are_flags = false;
         }
         if let Reading::Double(x) = read_double(word) {
             words.doubles[at] = x;
@@ -90,7 +99,7 @@ impl Words {
     }
 
     // As a list of doubles.
-    fn as_doubles(self) -> Doubles {
+    pub fn as_doubles(self) -> Doubles {
         let list = self.doubles;
         Doubles {
             list,
@@ -98,10 +107,19 @@ impl Words {
         }
     }
 
-    // As a list of type sets.
-    fn as_sets(self) -> Sets {
+    // As a list of type sets, or of names.
+    pub fn as_sets(self) -> Sets {
         let list = self.sets;
         Sets {
+            list,
+            count: self.count,
+        }
+    }
+
+    // As a list of flags.
+    pub fn as_flags(self) -> Flags {
+        let list = self.flags;
+        Flags {
             list,
             count: self.count,
         }
@@ -126,10 +144,93 @@ pub struct Doubles {
     pub count: usize,
 }
 
-// A list of type sets.
+impl Doubles {
+    // With the ends of an interval more.
+    pub fn with_interval(self, i: Interval) -> Doubles {
+        let at = self.count % (MOST_WORDS - 1);
+        let mut list = self.list;
+        list[at] = i.lo;
+        list[at + 1] = i.hi;
+        Doubles {
+            list,
+            count: at + 2,
+        }
+    }
+
+    // Without the last.
+    pub fn cut(self) -> Doubles {
+        let list = self.list;
+        Doubles {
+            list,
+            count: less_one(self.count),
+        }
+    }
+}
+
+// A list of type sets, or of names.
 pub struct Sets {
     pub list: [u32; MOST_WORDS],
     pub count: usize,
+}
+
+impl Sets {
+    // With another at a place.
+    pub fn with_put(self, place: usize, set: u32) -> Sets {
+        let at = place % MOST_WORDS;
+        let mut sets = self;
+        sets.list[at] = set;
+        sets
+    }
+
+    // Without the last.
+    pub fn cut(self) -> Sets {
+        let list = self.list;
+        Sets {
+            list,
+            count: less_one(self.count),
+        }
+    }
+}
+
+// A list of flags of boxes.
+pub struct Flags {
+    pub list: [u8; MOST_WORDS],
+    pub count: usize,
+}
+
+impl Flags {
+    // With a flag more.
+    pub fn with(self, flag: u8) -> Flags {
+        let at = self.count % MOST_WORDS;
+        let mut list = self.list;
+        list[at] = flag;
+        Flags {
+            list,
+            count: at + 1,
+        }
+    }
+
+    // With another at a place.
+    pub fn with_put(self, place: usize, flag: u8) -> Flags {
+        let at = place % MOST_WORDS;
+        let mut flags = self;
+        flags.list[at] = flag;
+        flags
+    }
+
+    // Without the last.
+    pub fn cut(self) -> Flags {
+        let list = self.list;
+        Flags {
+            list,
+            count: less_one(self.count),
+        }
+    }
+}
+
+// A count less 1, where it is not 0.
+pub fn less_one(count: usize) -> usize {
+    if count == 0 { 0 } else { count - 1 }
 }
 
 // What sweeps go over: doubles by the values, boxes by the intervals, whose ends are in a list,

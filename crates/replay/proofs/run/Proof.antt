@@ -4,10 +4,10 @@ use Rattle.replay.proofs.run.Statement.{statement}
 use Rattle.replay.proofs.run.Tie as tie
 
 abbrev Inv-loop : tie.InvT-loop
-Inv-loop line₀ out₀ state₀ turns₀ line out state turns = Unit
+Inv-loop line₀ out₀ nodes₀ state₀ turns₀ line out nodes state turns = Unit
 
 abbrev μ-loop : tie.MeasureT-loop
-μ-loop line₀ out₀ state₀ turns₀ line out state turns = turns
+μ-loop line₀ out₀ nodes₀ state₀ turns₀ line out nodes state turns = turns
 
 pub run-spec : {M : Type 1} → statement M
 run-spec =

@@ -7,10 +7,10 @@ use Rattle.replay.proofs.take_bytes.Statement.{statement}
 use Rattle.replay.proofs.take_bytes.Tie as tie
 
 abbrev Inv-loop : tie.InvT-loop
-Inv-loop bytes line₀ out₀ state₀ i₀ i-end line out state i = i-end ≡ length bytes
+Inv-loop bytes line₀ out₀ nodes₀ state₀ i₀ i-end line out nodes state i = i-end ≡ length bytes
 
 abbrev μ-loop : tie.MeasureT-loop
-μ-loop bytes line₀ out₀ state₀ i₀ i-end line out state i = i-end - i
+μ-loop bytes line₀ out₀ nodes₀ state₀ i₀ i-end line out nodes state i = i-end - i
 
 pub take-bytes-spec : {M : Type 1} → statement M
 take-bytes-spec =

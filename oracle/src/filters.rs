@@ -1,0 +1,159 @@
+//! Filters: the tables that lines of a case file set, and what the Rust answers over them.
+
+use crate::answer::{Answer, Digest};
+use crate::filter_draws::{NAMES, tables};
+use crate::refusals::check;
+use crate::text;
+use oracle::bounding_box::BoundingBox;
+use oracle::interval::{Interval, IntervalTrait, WraparoundInterval};
+use oracle::shims::datafusion_physical_expr::expressions::Column;
+use oracle::spatial_filter::{SpatialFilter, TableGeoStatistics};
+use oracle::statistics::GeoStatistics;
+
+/// The most words of a line, and of a chain: one node more than a filter may have.
+const MOST_WORDS: usize = 40;
+const MOST_CHAIN: usize = 4100;
+
+/// What is lent to a call.
+#[derive(Default)]
+pub struct Tables {
+    pub nodes: Vec<u32>,
+    pub literals: Boxes,
+    pub records: Boxes,
+    pub names: Vec<u32>,
+}
+
+/// Eight doubles a box, the ends of x, y, z and m, and a flag.
+#[derive(Default)]
+pub struct Boxes {
+    pub ends: Vec<f64>,
+    pub flags: Vec<u8>,
+}
+
+/// How a leaf finds its record, or that there are no records.
+#[derive(Clone, Copy, PartialEq)]
+pub enum Lookup {
+    ByPosition,
+    ByName,
+    Nothing,
+}
+
+impl Tables {
+    /// Sets the table that a line names; the old one stays where the words do not spell one.
+    pub fn set(&mut self, table: &str, words: &[&str]) -> Option<()> {
+        match table {
+            "nodes" => self.nodes = read_list(words, text::read_set)?,
+            "literals" => self.literals.ends = read_list(words, text::read)?,
+            "literal_flags" => self.literals.flags = read_list(words, read_flag)?,
+            "records" => self.records.ends = read_list(words, text::read)?,
+            "record_flags" => self.records.flags = read_list(words, read_flag)?,
+            "names" => self.names = read_list(words, text::read_set)?,
+            _ => return None,
+        }
+        Some(())
+    }
+
+    /// Sets the nodes to the first so many words of a chain. It hands the answer of its lowest node
+    /// up to the root: each And has an Unknown beside it, and each Or a LiteralFalse.
+    pub fn set_chain(&mut self, words: usize) -> Option<()> {
+        if words > MOST_CHAIN {
+            return None;
+        }
+        let nodes = (0..MOST_CHAIN as u32 / 4).flat_map(|node| match node % 4 {
+            _ if node == 0 => [0, 0, 0, 0],
+            0 => [4, node - 2, node - 1, 0],
+            1 => [6, 0, 0, 0],
+            2 => [3, node - 2, node - 1, 0],
+            _ => [5, 0, 0, 0],
+        });
+        self.nodes = nodes.take(words).collect();
+        Some(())
+    }
+
+    /// The four words of a node.
+    pub fn node(&self, node: usize) -> [u32; 4] {
+        std::array::from_fn(|word| self.nodes[4 * node + word])
+    }
+
+    pub fn evaluate(&self, lookup: Lookup) -> Answer {
+        let answer = check(self, lookup).map(|()| {
+            let answer = self.root().evaluate(&self.statistics(lookup));
+            answer.expect("every index is lent")
+        });
+        Answer::matched(answer)
+    }
+
+    pub fn filter_bbox(&self, name: u32) -> Answer {
+        let answer = check(self, Lookup::Nothing);
+        Answer::boxed(answer.map(|()| self.root().filter_bbox(&name.to_string())))
+    }
+
+    fn root(&self) -> SpatialFilter {
+        self.filter(self.nodes.len() / 4 - 1)
+    }
+
+    fn filter(&self, node: usize) -> SpatialFilter {
+        let [kind, first, second, third] = self.node(node);
+        let column = || Column::new(&second.to_string(), first as usize);
+        let literal = || self.literals.bounds(third as usize);
+        let child = |node: u32| Box::new(self.filter(node as usize));
+        match kind {
+            0 => SpatialFilter::Intersects(column(), literal()),
+            1 => SpatialFilter::Covers(column(), literal()),
+            3 => SpatialFilter::And(child(first), child(second)),
+            4 => SpatialFilter::Or(child(first), child(second)),
+            5 => SpatialFilter::LiteralFalse,
+            6 => SpatialFilter::Unknown,
+            _ => unreachable!("refused"),
+        }
+    }
+
+    fn statistics(&self, lookup: Lookup) -> TableGeoStatistics {
+        let flags = self.records.flags.iter().enumerate();
+        let records = flags.map(|(place, flag)| {
+            let bounds = (*flag != 0).then(|| self.records.bounds(place));
+            GeoStatistics::unspecified().with_bbox(bounds)
+        });
+        if lookup == Lookup::ByPosition {
+            return TableGeoStatistics::ByPosition(records.collect());
+        }
+        let names = self.names.iter().map(u32::to_string);
+        TableGeoStatistics::ByName(names.zip(records).collect())
+    }
+}
+
+impl Boxes {
+    fn bounds(&self, place: usize) -> BoundingBox {
+        let interval = |k: usize| {
+            let at = 8 * place + 2 * k;
+            Interval::new(self.ends[at], self.ends[at + 1])
+        };
+        let known = |k, bit| (self.flags[place] & bit != 0).then(|| interval(k));
+        let x = WraparoundInterval::new(interval(0).lo(), interval(0).hi());
+        BoundingBox::xyzm(x, interval(1), known(2, 2), known(3, 4))
+    }
+}
+
+/// The digest of the calls over so many drawn tables, the first drawn from a seed and each other
+/// from the next: by position, by name, and a box for each name.
+pub fn filter_tables(seed: u32, count: u32) -> Digest {
+    let mut digest = Digest::default();
+    for i in 0..count {
+        let tables = tables(seed.wrapping_add(i));
+        digest.add(&tables.evaluate(Lookup::ByPosition));
+        digest.add(&tables.evaluate(Lookup::ByName));
+        for name in 0..NAMES {
+            digest.add(&tables.filter_bbox(name));
+        }
+    }
+    digest
+}
+
+fn read_flag(word: &str) -> Option<u8> {
+    text::read_set(word)?.try_into().ok()
+}
+
+fn read_list<T>(words: &[&str], read: fn(&str) -> Option<T>) -> Option<Vec<T>> {
+    let list: Vec<T> = words.iter().map(|word| read(word)).collect::<Option<_>>()?;
+    (list.len() <= MOST_WORDS).then_some(list)
+}
