@@ -5,7 +5,7 @@ use crate::filters::{Boxes, Tables};
 use oracle::interval::IntervalTrait;
 
 /// The most boxes of a list.
-const MOST_BOXES: u32 = 5;
+const MOST_BOXES: u32 = 6;
 
 /// The most leaves of a tree.
 const MOST_LEAVES: u32 = 30;

@@ -11,7 +11,7 @@ use oracle::spatial_filter::{SpatialFilter, TableGeoStatistics};
 use oracle::statistics::GeoStatistics;
 
 /// The most words of a line, and of a chain: one node more than a filter may have.
-const MOST_WORDS: usize = 40;
+const MOST_WORDS: usize = 48;
 const MOST_CHAIN: usize = 4100;
 
 /// What is lent to a call.

@@ -11,9 +11,9 @@ use oracle::types::GeometryTypeAndDimensionsSet as Set;
 pub const MISSING: &str = "-";
 
 /// How many doubles, how many intervals and how many type sets a sweep may go over.
-const MOST_VALUES: usize = 40;
+const MOST_VALUES: usize = 48;
 const MOST_INTERVALS: usize = 6;
-const MOST_SETS: usize = 40;
+const MOST_SETS: usize = 48;
 
 #[derive(Clone, Copy, PartialEq)]
 pub enum Kind {

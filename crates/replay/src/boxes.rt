@@ -57,7 +57,7 @@ pub fn box_at(words: Words, place: usize) -> BoundingBox {
 
 // The z or m that two words from a place on spell.
 fn dimension_at(words: Words, at: usize) -> Dimension
-    requires { ⌜ at ≤ 38 ⌝ }
+    requires { ⌜ at ≤ 46 ⌝ }
 {
     if words.is_missing[at] {
         return Dimension::Missing;

@@ -13,7 +13,7 @@ use crate::words::less_one;
 use sedona_geometry::interval::Interval;
 
 // The most boxes of a list.
-const MOST_BOXES: usize = 5;
+const MOST_BOXES: usize = 6;
 
 // The most leaves of a tree.
 const MOST_LEAVES: usize = 30;

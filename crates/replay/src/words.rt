@@ -10,7 +10,7 @@ use check::same;
 use sedona_geometry::interval::Interval;
 
 // The most words that a line can have behind its first.
-pub const MOST_WORDS: usize = 40;
+pub const MOST_WORDS: usize = 48;
 
 // How many words a record is: a box, a type set, totals from TOTALS on and extents from EXTENTS on.
 pub const RECORD: usize = 18;

@@ -8,7 +8,7 @@ abbrev Inv-loop : tie.InvT-loop
 Inv-loop base count list₀ i₀ list i = Unit
 
 abbrev μ-loop : tie.MeasureT-loop
-μ-loop base count list₀ i₀ list i = 40 - i
+μ-loop base count list₀ i₀ list i = 48 - i
 
 pub names-from-spec : {M : Type 1} → statement M
 names-from-spec =

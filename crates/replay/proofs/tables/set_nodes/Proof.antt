@@ -8,7 +8,7 @@ abbrev Inv-loop : tie.InvT-loop
 Inv-loop nodes₀ words i₀ nodes i = Unit
 
 abbrev μ-loop : tie.MeasureT-loop
-μ-loop nodes₀ words i₀ nodes i = 40 - i
+μ-loop nodes₀ words i₀ nodes i = 48 - i
 
 pub set-nodes-spec : {M : Type 1} → statement M
 set-nodes-spec =
