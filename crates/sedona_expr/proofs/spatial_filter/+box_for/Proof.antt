@@ -4,7 +4,6 @@ use lib.Dec.{eqb}
 use borrow.Author.Tests.{eq-eqb, ne-eqb}
 use Rattle.sedona_expr.specs.SpatialFilter.{table, boxFor, pairOf}
 use Rattle.sedona_expr.proofs.Tables.{says-leaf, says-pair, says-broken, says-other, broken-left, broken-right, leaf-same, pair-and, pair-or}
-use borrow.Author.Needs.{needs}
 use Prim.Native.Nat.{ℕ, _<_}
 use borrow.Fn.Kinds.{In}
 use borrow.Fn.PlainCycle.{Measures, is, falls, and}
@@ -36,34 +35,121 @@ abbrev claims : ℕ → lts.Claims
 claims t = (word-reads.Asked, word-reads.Learnt, is-leaf-reads.Asked, is-leaf-reads.Learnt, literal-of-reads.Asked, literal-of-reads.Learnt, full-reads.Asked, full-reads.Learnt, is-pair-reads.Asked, is-pair-reads.Learnt, below t, reads.Post, intersection-or-full-reads.Asked, intersection-or-full-reads.Learnt, merge-box-reads.Asked, merge-box-reads.Learnt, empty-reads.Asked, empty-reads.Learnt)
 
 returns : (t : ℕ) → lts.Need-returns (claims t) (here t) reads.Post
-returns t c = sym (says-leaf (boxFor (c .before .before .before .before .before .before .before .before .before .args .name)) (table (c .before .before .before .before .before .before .before .before .before .args .nodes .now) (c .before .before .before .before .before .before .before .before .before .args .literals .now) (c .before .before .before .before .before .before .before .before .before .args .literal-flags .now)) (c .before .before .before .before .before .before .before .before .before .args .node) (c .before .before .before .before .before .word .result) _ _ (c .before .before .before .before .before .word .ensures) refl refl (sym (c .before .before .before .before .is-leaf .ensures) ∙ c .before .before .before .if1 .taken) ∙ leaf-same (c .before .before .before .before .before .word .result) _ ∙ rw (← c .before .before .word2 .ensures, eq-eqb (c .before .before .word2 .result) (c .before .before .before .before .before .before .before .before .before .args .name) (c .before .if2 .taken), c .literal-of .ensures))
+returns t c =
+    let args = c .before .before .before .before .before .before .before .before .before .args in
+    let word = c .before .before .before .before .before .word in
+    let is-leaf = c .before .before .before .before .is-leaf in
+    let if1 = c .before .before .before .if1 in
+    let word2 = c .before .before .word2 in
+    let if2 = c .before .if2 in
+    let literal-of = c .literal-of in
+    sym (says-leaf (boxFor (args .name)) (table (args .nodes .now) (args .literals .now) (args .literal-flags .now)) (args .node) (word .result) _ _ (word .ensures) refl refl (sym (is-leaf .ensures) ∙ if1 .taken) ∙ leaf-same (word .result) _ ∙ rw (← word2 .ensures, eq-eqb (word2 .result) (args .name) (if2 .taken), literal-of .ensures))
 
 returns-2 : (t : ℕ) → lts.Need-returns-2 (claims t) (here t) reads.Post
-returns-2 t c = sym (says-leaf (boxFor (c .before .before .before .before .before .before .before .before .before .args .name)) (table (c .before .before .before .before .before .before .before .before .before .args .nodes .now) (c .before .before .before .before .before .before .before .before .before .args .literals .now) (c .before .before .before .before .before .before .before .before .before .args .literal-flags .now)) (c .before .before .before .before .before .before .before .before .before .args .node) (c .before .before .before .before .before .word .result) _ _ (c .before .before .before .before .before .word .ensures) refl refl (sym (c .before .before .before .before .is-leaf .ensures) ∙ c .before .before .before .if1 .taken) ∙ leaf-same (c .before .before .before .before .before .word .result) _ ∙ rw (← c .before .before .word2 .ensures, ne-eqb (c .before .before .word2 .result) (c .before .before .before .before .before .before .before .before .before .args .name) (c .before .if2 .left), c .full .ensures))
+returns-2 t c =
+    let args = c .before .before .before .before .before .before .before .before .before .args in
+    let word = c .before .before .before .before .before .word in
+    let is-leaf = c .before .before .before .before .is-leaf in
+    let if1 = c .before .before .before .if1 in
+    let word2 = c .before .before .word2 in
+    let if2 = c .before .if2 in
+    let full = c .full in
+    sym (says-leaf (boxFor (args .name)) (table (args .nodes .now) (args .literals .now) (args .literal-flags .now)) (args .node) (word .result) _ _ (word .ensures) refl refl (sym (is-leaf .ensures) ∙ if1 .taken) ∙ leaf-same (word .result) _ ∙ rw (← word2 .ensures, ne-eqb (word2 .result) (args .name) (if2 .left), full .ensures))
 
 returns-3 : (t : ℕ) → lts.Need-returns-3 (claims t) (here t) reads.Post
-returns-3 t c = c .full2 .ensures ∙ sym (says-broken (boxFor (c .before .before .before .before .before .before .before .before .before .before .before .before .args .name)) (table (c .before .before .before .before .before .before .before .before .before .before .before .before .args .nodes .now) (c .before .before .before .before .before .before .before .before .before .before .before .before .args .literals .now) (c .before .before .before .before .before .before .before .before .before .before .before .before .args .literal-flags .now)) (c .before .before .before .before .before .before .before .before .before .before .before .before .args .node) (c .before .before .before .before .before .before .before .before .word .result) (c .before .before .before .word3 .result) (c .before .before .word4 .result) (c .before .before .before .before .before .before .before .before .word .ensures) (c .before .before .before .word3 .ensures) (c .before .before .word4 .ensures) (sym (c .before .before .before .before .before .is-pair .ensures) ∙ c .before .before .before .before .if3 .taken) (broken-left (c .before .before .before .before .before .before .before .before .before .before .before .before .args .nodes .now) (c .before .before .before .before .before .before .before .before .before .before .before .before .args .node) (c .before .before .before .word3 .result) (c .before .before .before .word3 .ensures) (c .before .if4 .taken)))
+returns-3 t c =
+    let args = c .before .before .before .before .before .before .before .before .before .before .before .before .args in
+    let word = c .before .before .before .before .before .before .before .before .word in
+    let is-pair = c .before .before .before .before .before .is-pair in
+    let if3 = c .before .before .before .before .if3 in
+    let word3 = c .before .before .before .word3 in
+    let word4 = c .before .before .word4 in
+    let if4 = c .before .if4 in
+    let full2 = c .full2 in
+    full2 .ensures ∙ sym (says-broken (boxFor (args .name)) (table (args .nodes .now) (args .literals .now) (args .literal-flags .now)) (args .node) (word .result) (word3 .result) (word4 .result) (word .ensures) (word3 .ensures) (word4 .ensures) (sym (is-pair .ensures) ∙ if3 .taken) (broken-left (args .nodes .now) (args .node) (word3 .result) (word3 .ensures) (if4 .taken)))
 
 returns-4 : (t : ℕ) → lts.Need-returns-4 (claims t) (here t) reads.Post
-returns-4 t c = c .full3 .ensures ∙ sym (says-broken (boxFor (c .before .before .before .before .before .before .before .before .before .before .before .before .before .args .name)) (table (c .before .before .before .before .before .before .before .before .before .before .before .before .before .args .nodes .now) (c .before .before .before .before .before .before .before .before .before .before .before .before .before .args .literals .now) (c .before .before .before .before .before .before .before .before .before .before .before .before .before .args .literal-flags .now)) (c .before .before .before .before .before .before .before .before .before .before .before .before .before .args .node) (c .before .before .before .before .before .before .before .before .before .word .result) (c .before .before .before .before .word3 .result) (c .before .before .before .word4 .result) (c .before .before .before .before .before .before .before .before .before .word .ensures) (c .before .before .before .before .word3 .ensures) (c .before .before .before .word4 .ensures) (sym (c .before .before .before .before .before .before .is-pair .ensures) ∙ c .before .before .before .before .before .if3 .taken) (broken-right (c .before .before .before .before .before .before .before .before .before .before .before .before .before .args .nodes .now) (c .before .before .before .before .before .before .before .before .before .before .before .before .before .args .node) (c .before .before .before .before .word3 .result) (c .before .before .before .word4 .result) (c .before .before .before .before .word3 .ensures) (c .before .before .before .word4 .ensures) (c .before .before .if4 .left) (c .before .if5 .taken)))
+returns-4 t c =
+    let args = c .before .before .before .before .before .before .before .before .before .before .before .before .before .args in
+    let word = c .before .before .before .before .before .before .before .before .before .word in
+    let is-pair = c .before .before .before .before .before .before .is-pair in
+    let if3 = c .before .before .before .before .before .if3 in
+    let word3 = c .before .before .before .before .word3 in
+    let word4 = c .before .before .before .word4 in
+    let if4 = c .before .before .if4 in
+    let if5 = c .before .if5 in
+    let full3 = c .full3 in
+    full3 .ensures ∙ sym (says-broken (boxFor (args .name)) (table (args .nodes .now) (args .literals .now) (args .literal-flags .now)) (args .node) (word .result) (word3 .result) (word4 .result) (word .ensures) (word3 .ensures) (word4 .ensures) (sym (is-pair .ensures) ∙ if3 .taken) (broken-right (args .nodes .now) (args .node) (word3 .result) (word4 .result) (word3 .ensures) (word4 .ensures) (if4 .left) (if5 .taken)))
 
 box-for-requires : (t : ℕ) → lts.Need-box-for-requires (claims t) (here t) reads.Post
-box-for-requires t c κs = (subst (λ (n : ℕ). c .before .before .before .word3 .result < n) (c .before .before .before .before .before .before .before .before .before .before .before .before .pre .0) (c .before .if4 .left), tt)
+box-for-requires t c κs =
+    let pre = c .before .before .before .before .before .before .before .before .before .before .before .before .pre in
+    let word3 = c .before .before .before .word3 in
+    let if4 = c .before .if4 in
+    (subst (λ (n : ℕ). word3 .result < n) (pre .0) (if4 .left), tt)
 
 box-for-requires-2 : (t : ℕ) → lts.Need-box-for-requires-2 (claims t) (here t) reads.Post
-box-for-requires-2 t c κs = (subst (λ (n : ℕ). c .before .before .before .word4 .result < n) (c .before .before .before .before .before .before .before .before .before .before .before .before .before .pre .0) (c .before .if5 .left), tt)
+box-for-requires-2 t c κs =
+    let pre = c .before .before .before .before .before .before .before .before .before .before .before .before .before .pre in
+    let word4 = c .before .before .before .word4 in
+    let if5 = c .before .if5 in
+    (subst (λ (n : ℕ). word4 .result < n) (pre .0) (if5 .left), tt)
 
 returns-5 : (t : ℕ) → lts.Need-returns-5 (claims t) (here t) reads.Post
-returns-5 t c = rw (c .intersection-or-full .ensures, c .before .before .before .box-for .ensures, c .before .before .box-for2 .ensures) (sym (says-pair (boxFor (c .before .before .before .before .before .before .before .before .before .before .before .before .before .before .before .before .args .name)) (table (c .before .before .before .before .before .before .before .before .before .before .before .before .before .before .before .before .args .nodes .now) (c .before .before .before .before .before .before .before .before .before .before .before .before .before .before .before .before .args .literals .now) (c .before .before .before .before .before .before .before .before .before .before .before .before .before .before .before .before .args .literal-flags .now)) (c .before .before .before .before .before .before .before .before .before .before .before .before .before .before .before .before .args .node) (c .before .before .before .before .before .before .before .before .before .before .before .before .word .result) (c .before .before .before .before .before .before .before .word3 .result) (c .before .before .before .before .before .before .word4 .result) (c .before .before .before .before .before .before .before .before .before .before .before .before .word .ensures) (c .before .before .before .before .before .before .before .word3 .ensures) (c .before .before .before .before .before .before .word4 .ensures) (sym (c .before .before .before .before .before .before .before .before .before .is-pair .ensures) ∙ c .before .before .before .before .before .before .before .before .if3 .taken) (c .before .before .before .before .before .if4 .left) (c .before .before .before .before .if5 .left) ∙ pair-and (c .before .before .before .before .before .before .before .before .before .before .before .before .word .result) _ _ (c .before .if6 .taken)))
+returns-5 t c =
+    let args = c .before .before .before .before .before .before .before .before .before .before .before .before .before .before .before .before .args in
+    let word = c .before .before .before .before .before .before .before .before .before .before .before .before .word in
+    let is-pair = c .before .before .before .before .before .before .before .before .before .is-pair in
+    let if3 = c .before .before .before .before .before .before .before .before .if3 in
+    let word3 = c .before .before .before .before .before .before .before .word3 in
+    let word4 = c .before .before .before .before .before .before .word4 in
+    let if4 = c .before .before .before .before .before .if4 in
+    let if5 = c .before .before .before .before .if5 in
+    let box-for = c .before .before .before .box-for in
+    let box-for2 = c .before .before .box-for2 in
+    let if6 = c .before .if6 in
+    let intersection-or-full = c .intersection-or-full in
+    rw (intersection-or-full .ensures, box-for .ensures, box-for2 .ensures) (sym (says-pair (boxFor (args .name)) (table (args .nodes .now) (args .literals .now) (args .literal-flags .now)) (args .node) (word .result) (word3 .result) (word4 .result) (word .ensures) (word3 .ensures) (word4 .ensures) (sym (is-pair .ensures) ∙ if3 .taken) (if4 .left) (if5 .left) ∙ pair-and (word .result) _ _ (if6 .taken)))
 
 returns-6 : (t : ℕ) → lts.Need-returns-6 (claims t) (here t) reads.Post
-returns-6 t c = rw (c .merge-box .ensures, c .before .before .before .box-for .ensures, c .before .before .box-for2 .ensures) (sym (says-pair (boxFor (c .before .before .before .before .before .before .before .before .before .before .before .before .before .before .before .before .args .name)) (table (c .before .before .before .before .before .before .before .before .before .before .before .before .before .before .before .before .args .nodes .now) (c .before .before .before .before .before .before .before .before .before .before .before .before .before .before .before .before .args .literals .now) (c .before .before .before .before .before .before .before .before .before .before .before .before .before .before .before .before .args .literal-flags .now)) (c .before .before .before .before .before .before .before .before .before .before .before .before .before .before .before .before .args .node) (c .before .before .before .before .before .before .before .before .before .before .before .before .word .result) (c .before .before .before .before .before .before .before .word3 .result) (c .before .before .before .before .before .before .word4 .result) (c .before .before .before .before .before .before .before .before .before .before .before .before .word .ensures) (c .before .before .before .before .before .before .before .word3 .ensures) (c .before .before .before .before .before .before .word4 .ensures) (sym (c .before .before .before .before .before .before .before .before .before .is-pair .ensures) ∙ c .before .before .before .before .before .before .before .before .if3 .taken) (c .before .before .before .before .before .if4 .left) (c .before .before .before .before .if5 .left) ∙ pair-or (c .before .before .before .before .before .before .before .before .before .before .before .before .word .result) _ _ (c .before .if6 .left)))
+returns-6 t c =
+    let args = c .before .before .before .before .before .before .before .before .before .before .before .before .before .before .before .before .args in
+    let word = c .before .before .before .before .before .before .before .before .before .before .before .before .word in
+    let is-pair = c .before .before .before .before .before .before .before .before .before .is-pair in
+    let if3 = c .before .before .before .before .before .before .before .before .if3 in
+    let word3 = c .before .before .before .before .before .before .before .word3 in
+    let word4 = c .before .before .before .before .before .before .word4 in
+    let if4 = c .before .before .before .before .before .if4 in
+    let if5 = c .before .before .before .before .if5 in
+    let box-for = c .before .before .before .box-for in
+    let box-for2 = c .before .before .box-for2 in
+    let if6 = c .before .if6 in
+    let merge-box = c .merge-box in
+    rw (merge-box .ensures, box-for .ensures, box-for2 .ensures) (sym (says-pair (boxFor (args .name)) (table (args .nodes .now) (args .literals .now) (args .literal-flags .now)) (args .node) (word .result) (word3 .result) (word4 .result) (word .ensures) (word3 .ensures) (word4 .ensures) (sym (is-pair .ensures) ∙ if3 .taken) (if4 .left) (if5 .left) ∙ pair-or (word .result) _ _ (if6 .left)))
 
 returns-7 : (t : ℕ) → lts.Need-returns-7 (claims t) (here t) reads.Post
-returns-7 t c = c .empty .ensures ∙ sym (says-other (boxFor (c .before .before .before .before .before .before .before .before .before .before .args .name)) (table (c .before .before .before .before .before .before .before .before .before .before .args .nodes .now) (c .before .before .before .before .before .before .before .before .before .before .args .literals .now) (c .before .before .before .before .before .before .before .before .before .before .args .literal-flags .now)) (c .before .before .before .before .before .before .before .before .before .before .args .node) (c .before .before .before .before .before .before .word .result) _ _ (c .before .before .before .before .before .before .word .ensures) refl refl (sym (c .before .before .before .before .before .is-leaf .ensures) ∙ c .before .before .before .before .if1 .left) (sym (c .before .before .before .is-pair .ensures) ∙ c .before .before .if3 .left) ∙ rw (eq-eqb (c .before .before .before .before .before .before .word .result) 5 (c .before .if7 .taken)))
+returns-7 t c =
+    let args = c .before .before .before .before .before .before .before .before .before .before .args in
+    let word = c .before .before .before .before .before .before .word in
+    let is-leaf = c .before .before .before .before .before .is-leaf in
+    let if1 = c .before .before .before .before .if1 in
+    let is-pair = c .before .before .before .is-pair in
+    let if3 = c .before .before .if3 in
+    let if7 = c .before .if7 in
+    let empty = c .empty in
+    empty .ensures ∙ sym (says-other (boxFor (args .name)) (table (args .nodes .now) (args .literals .now) (args .literal-flags .now)) (args .node) (word .result) _ _ (word .ensures) refl refl (sym (is-leaf .ensures) ∙ if1 .left) (sym (is-pair .ensures) ∙ if3 .left) ∙ rw (eq-eqb (word .result) 5 (if7 .taken)))
 
 returns-8 : (t : ℕ) → lts.Need-returns-8 (claims t) (here t) reads.Post
-returns-8 t c = c .full4 .ensures ∙ sym (says-other (boxFor (c .before .before .before .before .before .before .before .before .before .before .args .name)) (table (c .before .before .before .before .before .before .before .before .before .before .args .nodes .now) (c .before .before .before .before .before .before .before .before .before .before .args .literals .now) (c .before .before .before .before .before .before .before .before .before .before .args .literal-flags .now)) (c .before .before .before .before .before .before .before .before .before .before .args .node) (c .before .before .before .before .before .before .word .result) _ _ (c .before .before .before .before .before .before .word .ensures) refl refl (sym (c .before .before .before .before .before .is-leaf .ensures) ∙ c .before .before .before .before .if1 .left) (sym (c .before .before .before .is-pair .ensures) ∙ c .before .before .if3 .left) ∙ rw (ne-eqb (c .before .before .before .before .before .before .word .result) 5 (c .before .if7 .left)))
+returns-8 t c =
+    let args = c .before .before .before .before .before .before .before .before .before .before .args in
+    let word = c .before .before .before .before .before .before .word in
+    let is-leaf = c .before .before .before .before .before .is-leaf in
+    let if1 = c .before .before .before .before .if1 in
+    let is-pair = c .before .before .before .is-pair in
+    let if3 = c .before .before .if3 in
+    let if7 = c .before .if7 in
+    let full4 = c .full4 in
+    full4 .ensures ∙ sym (says-other (boxFor (args .name)) (table (args .nodes .now) (args .literals .now) (args .literal-flags .now)) (args .node) (word .result) _ _ (word .ensures) refl refl (sym (is-leaf .ensures) ∙ if1 .left) (sym (is-pair .ensures) ∙ if3 .left) ∙ rw (ne-eqb (word .result) 5 (if7 .left)))
 
 pub +box-for-spec : {M : Type 1} → statement M
 +box-for-spec = close μ (λ t. lts.spec (claims t) (here t) reads.Post (λ c κs. tt) (λ c κs. tt) (λ c κs. tt) (λ c κs. tt) (returns t) (λ c κs. tt) (returns-2 t) (λ c κs. tt) (λ c κs. tt) (λ c κs. tt) (λ c κs. tt) (returns-3 t) (λ c κs. tt) (returns-4 t) (box-for-requires t) (box-for-requires-2 t) (λ c κs. tt) (returns-5 t) (λ c κs. tt) (returns-6 t) (λ c κs. tt) (returns-7 t) (λ c κs. tt) (returns-8 t))

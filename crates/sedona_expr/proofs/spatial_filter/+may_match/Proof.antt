@@ -3,7 +3,6 @@ use mathlib.Core.Path.{_≡_, refl, sym, subst, ap, _∙_}
 use lib.Dec.{eqb}
 use Rattle.sedona_expr.specs.SpatialFilter.{table, boxes, lookup, recordOf, answer}
 use Rattle.sedona_expr.proofs.Tables.{says-leaf, says-pair, says-broken, says-other, broken-left, broken-right, answer-other}
-use borrow.Author.Needs.{needs}
 use Prim.Native.Nat.{ℕ, _<_}
 use borrow.Fn.Kinds.{In}
 use borrow.Fn.PlainCycle.{Measures, is, falls, and}
@@ -34,25 +33,77 @@ abbrev claims : ℕ → lts.Claims
 claims t = (word-reads.Asked, word-reads.Learnt, is-leaf-reads.Asked, is-leaf-reads.Learnt, literal-of-reads.Asked, literal-of-reads.Learnt, record-of-reads.Asked, record-of-reads.Learnt, leaf-may-match-reads.Asked, leaf-may-match-reads.Learnt, is-pair-reads.Asked, is-pair-reads.Learnt, below t, reads.Post, both-or-either-reads.Asked, both-or-either-reads.Learnt)
 
 returns : (t : ℕ) → lts.Need-returns (claims t) (here t) reads.Post
-returns t c = rw (c .leaf-may-match .ensures, c .before .record-of .ensures, c .before .before .literal-of .ensures) (sym (says-leaf (answer (recordOf (lookup (c .before .before .before .before .before .before .before .before .before .before .before .before .args .named) (c .before .before .before .before .before .before .before .before .before .before .before .before .args .names .now)) (boxes (c .before .before .before .before .before .before .before .before .before .before .before .before .args .records .now) (c .before .before .before .before .before .before .before .before .before .before .before .before .args .record-flags .now)))) (table (c .before .before .before .before .before .before .before .before .before .before .before .before .args .nodes .now) (c .before .before .before .before .before .before .before .before .before .before .before .before .args .literals .now) (c .before .before .before .before .before .before .before .before .before .before .before .before .args .literal-flags .now)) (c .before .before .before .before .before .before .before .before .before .before .before .before .args .node) (c .before .before .before .before .before .word .result) _ _ (c .before .before .before .before .before .word .ensures) refl refl (sym (c .before .before .before .before .is-leaf .ensures) ∙ c .before .before .before .if1 .taken)))
+returns t c =
+    let args = c .before .before .before .before .before .before .before .before .before .before .before .before .args in
+    let word = c .before .before .before .before .before .word in
+    let is-leaf = c .before .before .before .before .is-leaf in
+    let if1 = c .before .before .before .if1 in
+    let literal-of = c .before .before .literal-of in
+    let record-of = c .before .record-of in
+    let leaf-may-match = c .leaf-may-match in
+    rw (leaf-may-match .ensures, record-of .ensures, literal-of .ensures) (sym (says-leaf (answer (recordOf (lookup (args .named) (args .names .now)) (boxes (args .records .now) (args .record-flags .now)))) (table (args .nodes .now) (args .literals .now) (args .literal-flags .now)) (args .node) (word .result) _ _ (word .ensures) refl refl (sym (is-leaf .ensures) ∙ if1 .taken)))
 
 returns-2 : (t : ℕ) → lts.Need-returns-2 (claims t) (here t) reads.Post
-returns-2 t c = sym (says-broken (answer (recordOf (lookup (c .before .before .before .before .before .before .before .before .before .before .before .before .before .before .args .named) (c .before .before .before .before .before .before .before .before .before .before .before .before .before .before .args .names .now)) (boxes (c .before .before .before .before .before .before .before .before .before .before .before .before .before .before .args .records .now) (c .before .before .before .before .before .before .before .before .before .before .before .before .before .before .args .record-flags .now)))) (table (c .before .before .before .before .before .before .before .before .before .before .before .before .before .before .args .nodes .now) (c .before .before .before .before .before .before .before .before .before .before .before .before .before .before .args .literals .now) (c .before .before .before .before .before .before .before .before .before .before .before .before .before .before .args .literal-flags .now)) (c .before .before .before .before .before .before .before .before .before .before .before .before .before .before .args .node) (c .before .before .before .before .before .before .before .word .result) (c .before .before .word2 .result) (c .before .word3 .result) (c .before .before .before .before .before .before .before .word .ensures) (c .before .before .word2 .ensures) (c .before .word3 .ensures) (sym (c .before .before .before .before .is-pair .ensures) ∙ c .before .before .before .if2 .taken) (broken-left (c .before .before .before .before .before .before .before .before .before .before .before .before .before .before .args .nodes .now) (c .before .before .before .before .before .before .before .before .before .before .before .before .before .before .args .node) (c .before .before .word2 .result) (c .before .before .word2 .ensures) (c .if3 .taken)))
+returns-2 t c =
+    let args = c .before .before .before .before .before .before .before .before .before .before .before .before .before .before .args in
+    let word = c .before .before .before .before .before .before .before .word in
+    let is-pair = c .before .before .before .before .is-pair in
+    let if2 = c .before .before .before .if2 in
+    let word2 = c .before .before .word2 in
+    let word3 = c .before .word3 in
+    let if3 = c .if3 in
+    sym (says-broken (answer (recordOf (lookup (args .named) (args .names .now)) (boxes (args .records .now) (args .record-flags .now)))) (table (args .nodes .now) (args .literals .now) (args .literal-flags .now)) (args .node) (word .result) (word2 .result) (word3 .result) (word .ensures) (word2 .ensures) (word3 .ensures) (sym (is-pair .ensures) ∙ if2 .taken) (broken-left (args .nodes .now) (args .node) (word2 .result) (word2 .ensures) (if3 .taken)))
 
 returns-3 : (t : ℕ) → lts.Need-returns-3 (claims t) (here t) reads.Post
-returns-3 t c = sym (says-broken (answer (recordOf (lookup (c .before .before .before .before .before .before .before .before .before .before .before .before .before .before .before .args .named) (c .before .before .before .before .before .before .before .before .before .before .before .before .before .before .before .args .names .now)) (boxes (c .before .before .before .before .before .before .before .before .before .before .before .before .before .before .before .args .records .now) (c .before .before .before .before .before .before .before .before .before .before .before .before .before .before .before .args .record-flags .now)))) (table (c .before .before .before .before .before .before .before .before .before .before .before .before .before .before .before .args .nodes .now) (c .before .before .before .before .before .before .before .before .before .before .before .before .before .before .before .args .literals .now) (c .before .before .before .before .before .before .before .before .before .before .before .before .before .before .before .args .literal-flags .now)) (c .before .before .before .before .before .before .before .before .before .before .before .before .before .before .before .args .node) (c .before .before .before .before .before .before .before .before .word .result) (c .before .before .before .word2 .result) (c .before .before .word3 .result) (c .before .before .before .before .before .before .before .before .word .ensures) (c .before .before .before .word2 .ensures) (c .before .before .word3 .ensures) (sym (c .before .before .before .before .before .is-pair .ensures) ∙ c .before .before .before .before .if2 .taken) (broken-right (c .before .before .before .before .before .before .before .before .before .before .before .before .before .before .before .args .nodes .now) (c .before .before .before .before .before .before .before .before .before .before .before .before .before .before .before .args .node) (c .before .before .before .word2 .result) (c .before .before .word3 .result) (c .before .before .before .word2 .ensures) (c .before .before .word3 .ensures) (c .before .if3 .left) (c .if4 .taken)))
+returns-3 t c =
+    let args = c .before .before .before .before .before .before .before .before .before .before .before .before .before .before .before .args in
+    let word = c .before .before .before .before .before .before .before .before .word in
+    let is-pair = c .before .before .before .before .before .is-pair in
+    let if2 = c .before .before .before .before .if2 in
+    let word2 = c .before .before .before .word2 in
+    let word3 = c .before .before .word3 in
+    let if3 = c .before .if3 in
+    let if4 = c .if4 in
+    sym (says-broken (answer (recordOf (lookup (args .named) (args .names .now)) (boxes (args .records .now) (args .record-flags .now)))) (table (args .nodes .now) (args .literals .now) (args .literal-flags .now)) (args .node) (word .result) (word2 .result) (word3 .result) (word .ensures) (word2 .ensures) (word3 .ensures) (sym (is-pair .ensures) ∙ if2 .taken) (broken-right (args .nodes .now) (args .node) (word2 .result) (word3 .result) (word2 .ensures) (word3 .ensures) (if3 .left) (if4 .taken)))
 
 may-match-requires : (t : ℕ) → lts.Need-may-match-requires (claims t) (here t) reads.Post
-may-match-requires t c κs = (subst (λ (n : ℕ). c .before .before .before .word2 .result < n) (c .before .before .before .before .before .before .before .before .before .before .before .before .before .before .before .pre .0) (c .before .if3 .left), tt)
+may-match-requires t c κs =
+    let pre = c .before .before .before .before .before .before .before .before .before .before .before .before .before .before .before .pre in
+    let word2 = c .before .before .before .word2 in
+    let if3 = c .before .if3 in
+    (subst (λ (n : ℕ). word2 .result < n) (pre .0) (if3 .left), tt)
 
 may-match-requires-2 : (t : ℕ) → lts.Need-may-match-requires-2 (claims t) (here t) reads.Post
-may-match-requires-2 t c κs = (subst (λ (n : ℕ). c .before .before .before .word3 .result < n) (c .before .before .before .before .before .before .before .before .before .before .before .before .before .before .before .before .pre .0) (c .before .if4 .left), tt)
+may-match-requires-2 t c κs =
+    let pre = c .before .before .before .before .before .before .before .before .before .before .before .before .before .before .before .before .pre in
+    let word3 = c .before .before .before .word3 in
+    let if4 = c .before .if4 in
+    (subst (λ (n : ℕ). word3 .result < n) (pre .0) (if4 .left), tt)
 
 returns-4 : (t : ℕ) → lts.Need-returns-4 (claims t) (here t) reads.Post
-returns-4 t c = rw (c .both-or-either .ensures, c .before .before .may-match .ensures, c .before .may-match2 .ensures) (sym (says-pair (answer (recordOf (lookup (c .before .before .before .before .before .before .before .before .before .before .before .before .before .before .before .before .before .before .args .named) (c .before .before .before .before .before .before .before .before .before .before .before .before .before .before .before .before .before .before .args .names .now)) (boxes (c .before .before .before .before .before .before .before .before .before .before .before .before .before .before .before .before .before .before .args .records .now) (c .before .before .before .before .before .before .before .before .before .before .before .before .before .before .before .before .before .before .args .record-flags .now)))) (table (c .before .before .before .before .before .before .before .before .before .before .before .before .before .before .before .before .before .before .args .nodes .now) (c .before .before .before .before .before .before .before .before .before .before .before .before .before .before .before .before .before .before .args .literals .now) (c .before .before .before .before .before .before .before .before .before .before .before .before .before .before .before .before .before .before .args .literal-flags .now)) (c .before .before .before .before .before .before .before .before .before .before .before .before .before .before .before .before .before .before .args .node) (c .before .before .before .before .before .before .before .before .before .before .before .word .result) (c .before .before .before .before .before .before .word2 .result) (c .before .before .before .before .before .word3 .result) (c .before .before .before .before .before .before .before .before .before .before .before .word .ensures) (c .before .before .before .before .before .before .word2 .ensures) (c .before .before .before .before .before .word3 .ensures) (sym (c .before .before .before .before .before .before .before .before .is-pair .ensures) ∙ c .before .before .before .before .before .before .before .if2 .taken) (c .before .before .before .before .if3 .left) (c .before .before .before .if4 .left)))
+returns-4 t c =
+    let args = c .before .before .before .before .before .before .before .before .before .before .before .before .before .before .before .before .before .before .args in
+    let word = c .before .before .before .before .before .before .before .before .before .before .before .word in
+    let is-pair = c .before .before .before .before .before .before .before .before .is-pair in
+    let if2 = c .before .before .before .before .before .before .before .if2 in
+    let word2 = c .before .before .before .before .before .before .word2 in
+    let word3 = c .before .before .before .before .before .word3 in
+    let if3 = c .before .before .before .before .if3 in
+    let if4 = c .before .before .before .if4 in
+    let may-match = c .before .before .may-match in
+    let may-match2 = c .before .may-match2 in
+    let both-or-either = c .both-or-either in
+    rw (both-or-either .ensures, may-match .ensures, may-match2 .ensures) (sym (says-pair (answer (recordOf (lookup (args .named) (args .names .now)) (boxes (args .records .now) (args .record-flags .now)))) (table (args .nodes .now) (args .literals .now) (args .literal-flags .now)) (args .node) (word .result) (word2 .result) (word3 .result) (word .ensures) (word2 .ensures) (word3 .ensures) (sym (is-pair .ensures) ∙ if2 .taken) (if3 .left) (if4 .left)))
 
 returns-5 : (t : ℕ) → lts.Need-returns-5 (claims t) (here t) reads.Post
-returns-5 t c = sym (says-other (answer (recordOf (lookup (c .before .before .before .before .before .before .before .before .before .before .before .args .named) (c .before .before .before .before .before .before .before .before .before .before .before .args .names .now)) (boxes (c .before .before .before .before .before .before .before .before .before .before .before .args .records .now) (c .before .before .before .before .before .before .before .before .before .before .before .args .record-flags .now)))) (table (c .before .before .before .before .before .before .before .before .before .before .before .args .nodes .now) (c .before .before .before .before .before .before .before .before .before .before .before .args .literals .now) (c .before .before .before .before .before .before .before .before .before .before .before .args .literal-flags .now)) (c .before .before .before .before .before .before .before .before .before .before .before .args .node) (c .before .before .before .before .word .result) _ _ (c .before .before .before .before .word .ensures) refl refl (sym (c .before .before .before .is-leaf .ensures) ∙ c .before .before .if1 .left) (sym (c .before .is-pair .ensures) ∙ c .if2 .left) ∙ answer-other (recordOf (lookup (c .before .before .before .before .before .before .before .before .before .before .before .args .named) (c .before .before .before .before .before .before .before .before .before .before .before .args .names .now)) (boxes (c .before .before .before .before .before .before .before .before .before .before .before .args .records .now) (c .before .before .before .before .before .before .before .before .before .before .before .args .record-flags .now))) (eqb (c .before .before .before .before .word .result) 5))
+returns-5 t c =
+    let args = c .before .before .before .before .before .before .before .before .before .before .before .args in
+    let word = c .before .before .before .before .word in
+    let is-leaf = c .before .before .before .is-leaf in
+    let if1 = c .before .before .if1 in
+    let is-pair = c .before .is-pair in
+    let if2 = c .if2 in
+    sym (says-other (answer (recordOf (lookup (args .named) (args .names .now)) (boxes (args .records .now) (args .record-flags .now)))) (table (args .nodes .now) (args .literals .now) (args .literal-flags .now)) (args .node) (word .result) _ _ (word .ensures) refl refl (sym (is-leaf .ensures) ∙ if1 .left) (sym (is-pair .ensures) ∙ if2 .left) ∙ answer-other (recordOf (lookup (args .named) (args .names .now)) (boxes (args .records .now) (args .record-flags .now))) (eqb (word .result) 5))
 
 pub +may-match-spec : {M : Type 1} → statement M
 +may-match-spec = close μ (λ t. lts.spec (claims t) (here t) reads.Post (λ c κs. tt) (λ c κs. tt) (λ c κs. tt) (λ c κs. tt) (λ c κs. tt) (returns t) (λ c κs. tt) (λ c κs. tt) (λ c κs. tt) (returns-2 t) (returns-3 t) (may-match-requires t) (may-match-requires-2 t) (λ c κs. tt) (returns-4 t) (returns-5 t))

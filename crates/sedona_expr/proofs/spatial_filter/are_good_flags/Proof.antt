@@ -20,16 +20,32 @@ loop-holds : tie.Need-loop-holds Inv-loop μ-loop
 loop-holds c = (omega arith, refl)
 
 returns : tie.Need-returns Inv-loop μ-loop
-returns c = rw (c .before .before .before .before .loop .inv .1, all-next (goodFlag (c .before .before .before .before .before .before .args .none)) (c .before .before .before .before .before .before .args .flags .now) (c .before .before .before .before .loop .i) 0 (c .before .before .before .loop-test .taken), ← c .before .is-good-flag .ensures, not-true (c .before .is-good-flag .result) (c .if1 .taken))
+returns c =
+    let args = c .before .before .before .before .before .before .args in
+    let loop = c .before .before .before .before .loop in
+    let loop-test = c .before .before .before .loop-test in
+    let is-good-flag = c .before .is-good-flag in
+    let if1 = c .if1 in
+    rw (loop .inv .1, all-next (goodFlag (args .none)) (args .flags .now) (loop .i) 0 (loop-test .taken), ← is-good-flag .ensures, not-true (is-good-flag .result) (if1 .taken))
 
 loop-less : tie.Need-loop-less Inv-loop μ-loop
 loop-less c = omega arith
 
 loop-again : tie.Need-loop-again Inv-loop μ-loop
-loop-again c = (omega arith, c .before .before .before .before .loop .inv .1 ∙ rw (all-next (goodFlag (c .before .before .before .before .before .before .args .none)) (c .before .before .before .before .before .before .args .flags .now) (c .before .before .before .before .loop .i) 0 (c .before .before .before .loop-test .taken), ← c .before .is-good-flag .ensures, not-false (c .before .is-good-flag .result) (c .if1 .left)))
+loop-again c =
+    let args = c .before .before .before .before .before .before .args in
+    let loop = c .before .before .before .before .loop in
+    let loop-test = c .before .before .before .loop-test in
+    let is-good-flag = c .before .is-good-flag in
+    let if1 = c .if1 in
+    (omega arith, loop .inv .1 ∙ rw (all-next (goodFlag (args .none)) (args .flags .now) (loop .i) 0 (loop-test .taken), ← is-good-flag .ensures, not-false (is-good-flag .result) (if1 .left)))
 
 returns-2 : tie.Need-returns-2 Inv-loop μ-loop
-returns-2 c = rw (c .before .loop .inv .1, all-none (goodFlag (c .before .before .before .args .none)) (c .before .before .before .args .flags .now) (c .before .loop .i) (c .loop-test .left))
+returns-2 c =
+    let args = c .before .before .before .args in
+    let loop = c .before .loop in
+    let loop-test = c .loop-test in
+    rw (loop .inv .1, all-none (goodFlag (args .none)) (args .flags .now) (loop .i) (loop-test .left))
 
 pub are-good-flags-spec : {M : Type 1} → statement M
 are-good-flags-spec = tie.close (tie.spec Inv-loop μ-loop loop-holds (λ c. search needs) (λ c κs. tt) returns (λ c. search needs) loop-less loop-again returns-2)

@@ -24,13 +24,23 @@ element-copy-out-if1 : tie.Need-element-copy-out-if1 Inv-loop μ-loop
 element-copy-out-if1 c = omega (arith, c .before .before .pre, c .before .loop .inv .0)
 
 returns : tie.Need-returns Inv-loop μ-loop
-returns c = sym (c .before .before .before .loop .inv .1 ∙ below-not (λ m. eqb (getD (c .before .before .before .before .args .marks .now) m 0) 1) (c .before .before .before .loop .i) (c .before .before .loop-test .taken) (ne-eqb (getD (c .before .before .before .before .args .marks .now) (c .before .before .before .loop .i - 1) 0) 1 (c .if1 .taken)))
+returns c =
+    let args = c .before .before .before .before .args in
+    let loop = c .before .before .before .loop in
+    let loop-test = c .before .before .loop-test in
+    let if1 = c .if1 in
+    sym (loop .inv .1 ∙ below-not (λ m. eqb (getD (args .marks .now) m 0) 1) (loop .i) (loop-test .taken) (ne-eqb (getD (args .marks .now) (loop .i - 1) 0) 1 (if1 .taken)))
 
 loop-less : tie.Need-loop-less Inv-loop μ-loop
 loop-less c = omega arith
 
 loop-again : tie.Need-loop-again Inv-loop μ-loop
-loop-again c = (omega arith, c .before .before .before .loop .inv .1 ∙ below-so (λ m. eqb (getD (c .before .before .before .before .args .marks .now) m 0) 1) (c .before .before .before .loop .i) (c .before .before .loop-test .taken) (eq-eqb (getD (c .before .before .before .before .args .marks .now) (c .before .before .before .loop .i - 1) 0) 1 (c .if1 .left)))
+loop-again c =
+    let args = c .before .before .before .before .args in
+    let loop = c .before .before .before .loop in
+    let loop-test = c .before .before .loop-test in
+    let if1 = c .if1 in
+    (omega arith, loop .inv .1 ∙ below-so (λ m. eqb (getD (args .marks .now) m 0) 1) (loop .i) (loop-test .taken) (eq-eqb (getD (args .marks .now) (loop .i - 1) 0) 1 (if1 .left)))
 
 returns-2 : tie.Need-returns-2 Inv-loop μ-loop
 returns-2 c = sym (c .before .loop .inv .1 ∙ below-none (λ m. eqb (getD (c .before .before .args .marks .now) m 0) 1) (c .before .loop .i) (c .loop-test .left))

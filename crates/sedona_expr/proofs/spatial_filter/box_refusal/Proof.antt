@@ -3,7 +3,6 @@ use mathlib.Core.Path.{sym, _∙_}
 use borrow.Author.Tests.{eq-eqb, ne-eqb}
 use Rattle.sedona_expr.specs.SpatialFilter.{orElse, boxRefusal}
 use Rattle.sedona_expr.proofs.Tables.{words-pass}
-use borrow.Author.Needs.{needs}
 use Rattle.sedona_expr.proofs.spatial_filter.box_refusal.Statement.{statement}
 use Rattle.sedona_expr.proofs.spatial_filter.box_refusal.Tie as tie
 
@@ -13,14 +12,29 @@ returns c = rw (← c .before .words-refusal .ensures, ne-eqb _ _ (c .if1 .taken
 
 returns-2 : tie.Need-returns-2
 unfolding orElse boxRefusal
-returns-2 c = rw (← c .before .before .before .words-refusal .ensures, eq-eqb _ _ (c .before .before .if1 .left), ← c .before .boxes-refusal .ensures, ne-eqb _ _ (c .if2 .taken))
+returns-2 c =
+    let words-refusal = c .before .before .before .words-refusal in
+    let if1 = c .before .before .if1 in
+    let boxes-refusal = c .before .boxes-refusal in
+    let if2 = c .if2 in
+    rw (← words-refusal .ensures, eq-eqb _ _ (if1 .left), ← boxes-refusal .ensures, ne-eqb _ _ (if2 .taken))
 
 tree-refusal-requires : tie.Need-tree-refusal-requires
-tree-refusal-requires c κs = words-pass (c .before .before .before .before .before .before .before .args .nodes .now) (sym (c .before .before .before .words-refusal .ensures) ∙ c .before .before .if1 .left) .1
+tree-refusal-requires c κs =
+    let args = c .before .before .before .before .before .before .before .args in
+    let words-refusal = c .before .before .before .words-refusal in
+    let if1 = c .before .before .if1 in
+    words-pass (args .nodes .now) (sym (words-refusal .ensures) ∙ if1 .left) .1
 
 returns-3 : tie.Need-returns-3
 unfolding orElse boxRefusal
-returns-3 c = rw (← c .before .before .before .before .words-refusal .ensures, eq-eqb _ _ (c .before .before .before .if1 .left), ← c .before .before .boxes-refusal .ensures, eq-eqb _ _ (c .before .if2 .left), c .tree-refusal .ensures)
+returns-3 c =
+    let words-refusal = c .before .before .before .before .words-refusal in
+    let if1 = c .before .before .before .if1 in
+    let boxes-refusal = c .before .before .boxes-refusal in
+    let if2 = c .before .if2 in
+    let tree-refusal = c .tree-refusal in
+    rw (← words-refusal .ensures, eq-eqb _ _ (if1 .left), ← boxes-refusal .ensures, eq-eqb _ _ (if2 .left), tree-refusal .ensures)
 
 pub box-refusal-spec : {M : Type 1} → statement M
 box-refusal-spec = tie.close (tie.spec (λ c κs. tt) returns (λ c κs. tt) returns-2 tree-refusal-requires returns-3)

@@ -4,7 +4,6 @@ use native.Mathlib.Omega.{arith}
 use borrow.Author.Tests.{eq-eqb, ne-eqb}
 use Rattle.sedona_expr.specs.SpatialFilter.{table, boxes, lookup, outcome}
 use Rattle.sedona_expr.proofs.Tables.{words-pass, refusal-words}
-use borrow.Author.Needs.{needs}
 use Rattle.sedona_expr.proofs.spatial_filter.evaluate.Statement.{statement}
 use Rattle.sedona_expr.proofs.spatial_filter.evaluate.Tie as tie
 
@@ -13,18 +12,36 @@ unfolding outcome
 returns c = rw (← c .before .refusal .ensures, ne-eqb (c .before .refusal .result) 0 (c .if1 .taken))
 
 sub-root : tie.Need-sub-root
-sub-root c = words-pass (c .before .before .before .before .before .before .before .before .args .nodes .now) (refusal-words (lookup (c .before .before .before .before .before .before .before .before .args .named) (c .before .before .before .before .before .before .before .before .args .names .now)) (table (c .before .before .before .before .before .before .before .before .args .nodes .now) (c .before .before .before .before .before .before .before .before .args .literals .now) (c .before .before .before .before .before .before .before .before .args .literal-flags .now)) (boxes (c .before .before .before .before .before .before .before .before .args .records .now) (c .before .before .before .before .before .before .before .before .args .record-flags .now)) (sym (c .before .refusal .ensures) ∙ c .if1 .left)) .0
+sub-root c =
+    let args = c .before .before .before .before .before .before .before .before .args in
+    let refusal = c .before .refusal in
+    let if1 = c .if1 in
+    words-pass (args .nodes .now) (refusal-words (lookup (args .named) (args .names .now)) (table (args .nodes .now) (args .literals .now) (args .literal-flags .now)) (boxes (args .records .now) (args .record-flags .now)) (sym (refusal .ensures) ∙ if1 .left)) .0
 
 cast-root : tie.Need-cast-root
-cast-root c = record { fits = omega (arith, words-pass (c .before .before .before .before .before .before .before .before .args .nodes .now) (refusal-words (lookup (c .before .before .before .before .before .before .before .before .args .named) (c .before .before .before .before .before .before .before .before .args .names .now)) (table (c .before .before .before .before .before .before .before .before .args .nodes .now) (c .before .before .before .before .before .before .before .before .args .literals .now) (c .before .before .before .before .before .before .before .before .args .literal-flags .now)) (boxes (c .before .before .before .before .before .before .before .before .args .records .now) (c .before .before .before .before .before .before .before .before .args .record-flags .now)) (sym (c .before .refusal .ensures) ∙ c .if1 .left)) .1) }
+cast-root c =
+    let args = c .before .before .before .before .before .before .before .before .args in
+    let refusal = c .before .refusal in
+    let if1 = c .if1 in
+    record { fits = omega (arith, words-pass (args .nodes .now) (refusal-words (lookup (args .named) (args .names .now)) (table (args .nodes .now) (args .literals .now) (args .literal-flags .now)) (boxes (args .records .now) (args .record-flags .now)) (sym (refusal .ensures) ∙ if1 .left)) .1) }
 
 returns-2 : tie.Need-returns-2
 unfolding outcome
-returns-2 c = rw (← c .before .before .before .refusal .ensures, eq-eqb (c .before .before .before .refusal .result) 0 (c .before .before .if1 .left), ← c .before .may-match .ensures, c .if2 .taken)
+returns-2 c =
+    let refusal = c .before .before .before .refusal in
+    let if1 = c .before .before .if1 in
+    let may-match = c .before .may-match in
+    let if2 = c .if2 in
+    rw (← refusal .ensures, eq-eqb (refusal .result) 0 (if1 .left), ← may-match .ensures, if2 .taken)
 
 returns-3 : tie.Need-returns-3
 unfolding outcome
-returns-3 c = rw (← c .before .before .before .refusal .ensures, eq-eqb (c .before .before .before .refusal .result) 0 (c .before .before .if1 .left), ← c .before .may-match .ensures, c .if2 .left)
+returns-3 c =
+    let refusal = c .before .before .before .refusal in
+    let if1 = c .before .before .if1 in
+    let may-match = c .before .may-match in
+    let if2 = c .if2 in
+    rw (← refusal .ensures, eq-eqb (refusal .result) 0 (if1 .left), ← may-match .ensures, if2 .left)
 
 pub evaluate-spec : {M : Type 1} → statement M
 evaluate-spec = tie.close (tie.spec (λ c κs. tt) returns sub-root cast-root (λ c κs. tt) returns-2 returns-3)

@@ -1,5 +1,4 @@
 -- `spatial_filter::evaluate_by_name` meets its contract. Assumes nothing.
-use borrow.Author.Needs.{needs}
 use Rattle.sedona_expr.proofs.spatial_filter.evaluate_by_name.Statement.{statement}
 use Rattle.sedona_expr.proofs.spatial_filter.evaluate_by_name.Tie as tie
 

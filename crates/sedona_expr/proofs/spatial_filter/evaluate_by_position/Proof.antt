@@ -1,5 +1,4 @@
 -- `spatial_filter::evaluate_by_position` meets its contract. Assumes nothing.
-use borrow.Author.Needs.{needs}
 use Rattle.sedona_expr.proofs.spatial_filter.evaluate_by_position.Statement.{statement}
 use Rattle.sedona_expr.proofs.spatial_filter.evaluate_by_position.Tie as tie
 

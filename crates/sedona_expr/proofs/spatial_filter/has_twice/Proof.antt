@@ -19,13 +19,25 @@ loop-holds : tie.Need-loop-holds Inv-loop μ-loop
 loop-holds c = (omega arith, refl)
 
 returns : tie.Need-returns Inv-loop μ-loop
-returns c = rw (c .before .before .before .before .loop .inv .1, twice-next (c .before .before .before .before .before .before .args .names .now) (c .before .before .before .before .loop .i) (c .before .before .before .loop-test .taken), among (c .before .before .before .before .before .before .args .names .now) (c .before .before .before .before .loop .i) (c .before .place-of .result) (c .before .before .before .loop-test .taken) (c .before .place-of .ensures) (c .if1 .taken))
+returns c =
+    let args = c .before .before .before .before .before .before .args in
+    let loop = c .before .before .before .before .loop in
+    let loop-test = c .before .before .before .loop-test in
+    let place-of = c .before .place-of in
+    let if1 = c .if1 in
+    rw (loop .inv .1, twice-next (args .names .now) (loop .i) (loop-test .taken), among (args .names .now) (loop .i) (place-of .result) (loop-test .taken) (place-of .ensures) (if1 .taken))
 
 loop-less : tie.Need-loop-less Inv-loop μ-loop
 loop-less c = omega arith
 
 loop-again : tie.Need-loop-again Inv-loop μ-loop
-loop-again c = (omega arith, c .before .before .before .before .loop .inv .1 ∙ rw (twice-next (c .before .before .before .before .before .before .args .names .now) (c .before .before .before .before .loop .i) (c .before .before .before .loop-test .taken), not-among (c .before .before .before .before .before .before .args .names .now) (c .before .before .before .before .loop .i) (c .before .place-of .result) (c .before .before .before .loop-test .taken) (c .before .place-of .ensures) (c .if1 .left)))
+loop-again c =
+    let args = c .before .before .before .before .before .before .args in
+    let loop = c .before .before .before .before .loop in
+    let loop-test = c .before .before .before .loop-test in
+    let place-of = c .before .place-of in
+    let if1 = c .if1 in
+    (omega arith, loop .inv .1 ∙ rw (twice-next (args .names .now) (loop .i) (loop-test .taken), not-among (args .names .now) (loop .i) (place-of .result) (loop-test .taken) (place-of .ensures) (if1 .left)))
 
 returns-2 : tie.Need-returns-2 Inv-loop μ-loop
 returns-2 c = rw (c .before .loop .inv .1, twice-none (c .before .before .before .args .names .now) (c .before .loop .i) (c .loop-test .left))

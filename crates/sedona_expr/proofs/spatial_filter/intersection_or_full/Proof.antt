@@ -1,7 +1,6 @@
 -- `spatial_filter::intersection_or_full` meets its contract. Assumes nothing.
 use borrow.Author.Tests.{eq-eqb, ne-eqb}
 use Rattle.sedona_expr.specs.SpatialFilter.{orFull}
-use borrow.Author.Needs.{needs}
 use Rattle.sedona_expr.proofs.spatial_filter.intersection_or_full.Statement.{statement}
 use Rattle.sedona_expr.proofs.spatial_filter.intersection_or_full.Tie as tie
 

@@ -1,7 +1,6 @@
 -- `spatial_filter::node_refusal` meets its contract. Assumes nothing.
 use borrow.Author.Tests.{lt-ltb, le-ltb, eq-eqb, ne-eqb}
 use Rattle.sedona_expr.specs.SpatialFilter.{nodeRefusal}
-use borrow.Author.Needs.{needs}
 use Rattle.sedona_expr.proofs.spatial_filter.node_refusal.Statement.{statement}
 use Rattle.sedona_expr.proofs.spatial_filter.node_refusal.Tie as tie
 
@@ -15,15 +14,39 @@ returns-2 c = rw (← c .before .before .word .ensures, le-ltb _ _ (c .before .i
 
 returns-3 : tie.Need-returns-3
 unfolding nodeRefusal
-returns-3 c = rw (c .pair-refusal .ensures, ← c .before .before .before .before .before .word .ensures, le-ltb _ _ (c .before .before .before .before .if1 .left), ne-eqb _ _ (c .before .before .before .if2 .left), ← c .before .before .is-pair .ensures, c .before .if3 .taken)
+returns-3 c =
+    let word = c .before .before .before .before .before .word in
+    let if1 = c .before .before .before .before .if1 in
+    let if2 = c .before .before .before .if2 in
+    let is-pair = c .before .before .is-pair in
+    let if3 = c .before .if3 in
+    let pair-refusal = c .pair-refusal in
+    rw (pair-refusal .ensures, ← word .ensures, le-ltb _ _ (if1 .left), ne-eqb _ _ (if2 .left), ← is-pair .ensures, if3 .taken)
 
 returns-4 : tie.Need-returns-4
 unfolding nodeRefusal
-returns-4 c = rw (c .leaf-refusal .ensures, ← c .before .before .before .before .before .before .before .word .ensures, le-ltb _ _ (c .before .before .before .before .before .before .if1 .left), ne-eqb _ _ (c .before .before .before .before .before .if2 .left), ← c .before .before .before .before .is-pair .ensures, c .before .before .before .if3 .left, ← c .before .before .is-leaf .ensures, c .before .if4 .taken)
+returns-4 c =
+    let word = c .before .before .before .before .before .before .before .word in
+    let if1 = c .before .before .before .before .before .before .if1 in
+    let if2 = c .before .before .before .before .before .if2 in
+    let is-pair = c .before .before .before .before .is-pair in
+    let if3 = c .before .before .before .if3 in
+    let is-leaf = c .before .before .is-leaf in
+    let if4 = c .before .if4 in
+    let leaf-refusal = c .leaf-refusal in
+    rw (leaf-refusal .ensures, ← word .ensures, le-ltb _ _ (if1 .left), ne-eqb _ _ (if2 .left), ← is-pair .ensures, if3 .left, ← is-leaf .ensures, if4 .taken)
 
 returns-5 : tie.Need-returns-5
 unfolding nodeRefusal
-returns-5 c = rw (← c .before .before .before .before .before .before .word .ensures, le-ltb _ _ (c .before .before .before .before .before .if1 .left), ne-eqb _ _ (c .before .before .before .before .if2 .left), ← c .before .before .before .is-pair .ensures, c .before .before .if3 .left, ← c .before .is-leaf .ensures, c .if4 .left)
+returns-5 c =
+    let word = c .before .before .before .before .before .before .word in
+    let if1 = c .before .before .before .before .before .if1 in
+    let if2 = c .before .before .before .before .if2 in
+    let is-pair = c .before .before .before .is-pair in
+    let if3 = c .before .before .if3 in
+    let is-leaf = c .before .is-leaf in
+    let if4 = c .if4 in
+    rw (← word .ensures, le-ltb _ _ (if1 .left), ne-eqb _ _ (if2 .left), ← is-pair .ensures, if3 .left, ← is-leaf .ensures, if4 .left)
 
 pub node-refusal-spec : {M : Type 1} → statement M
 node-refusal-spec = tie.close (tie.spec (λ c κs. tt) returns returns-2 (λ c κs. tt) (λ c κs. tt) returns-3 (λ c κs. tt) (λ c κs. tt) returns-4 returns-5)

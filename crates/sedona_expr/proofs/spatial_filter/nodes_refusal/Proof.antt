@@ -25,10 +25,18 @@ loop-less : tie.Need-loop-less Inv-loop μ-loop
 loop-less c = omega arith
 
 loop-again : tie.Need-loop-again Inv-loop μ-loop
-loop-again c = (omega arith, rw (add-one (c .before .before .before .loop .node), c .or-else .ensures, c .before .node-refusal .ensures, c .before .before .before .loop .inv .1))
+loop-again c =
+    let loop = c .before .before .before .loop in
+    let node-refusal = c .before .node-refusal in
+    let or-else = c .or-else in
+    (omega arith, rw (add-one (loop .node), or-else .ensures, node-refusal .ensures, loop .inv .1))
 
 returns : tie.Need-returns Inv-loop μ-loop
-returns c = c .before .loop .inv .1 ∙ ap (λ (n : ℕ). nodesRefusal (c .before .before .before .args .nodes .now) (c .before .before .before .args .literals) (isLent (c .before .before .before .args .asked) (c .before .before .before .args .columns)) n) (le-antisymm (c .before .loop .inv .0) (c .loop-test .left))
+returns c =
+    let args = c .before .before .before .args in
+    let loop = c .before .loop in
+    let loop-test = c .loop-test in
+    loop .inv .1 ∙ ap (λ (n : ℕ). nodesRefusal (args .nodes .now) (args .literals) (isLent (args .asked) (args .columns)) n) (le-antisymm (loop .inv .0) (loop-test .left))
 
 pub nodes-refusal-spec : {M : Type 1} → statement M
 nodes-refusal-spec = tie.close (tie.spec Inv-loop μ-loop loop-holds (λ c. search needs) (λ c κs. tt) (λ c κs. tt) add-node loop-less loop-again returns)

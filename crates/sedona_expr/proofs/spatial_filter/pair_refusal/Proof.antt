@@ -1,7 +1,6 @@
 -- `spatial_filter::pair_refusal` meets its contract. Assumes nothing.
 use borrow.Author.Tests.{lt-ltb, le-ltb}
 use Rattle.sedona_expr.specs.SpatialFilter.{areBelow, pairRefusal}
-use borrow.Author.Needs.{needs}
 use Rattle.sedona_expr.proofs.spatial_filter.pair_refusal.Statement.{statement}
 use Rattle.sedona_expr.proofs.spatial_filter.pair_refusal.Tie as tie
 

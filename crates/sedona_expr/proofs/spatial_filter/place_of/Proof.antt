@@ -19,16 +19,30 @@ loop-holds : tie.Need-loop-holds Inv-loop μ-loop
 loop-holds c = (c .pre, omega arith)
 
 returns : tie.Need-returns Inv-loop μ-loop
-returns c = omega (arith, c .before .before .before .loop .inv .1, place-hit (c .before .before .before .before .args .names .now) (c .before .before .before .loop .i) (c .before .before .before .before .args .name) (c .before .before .loop-test .taken) (c .if1 .taken))
+returns c =
+    let args = c .before .before .before .before .args in
+    let loop = c .before .before .before .loop in
+    let loop-test = c .before .before .loop-test in
+    let if1 = c .if1 in
+    omega (arith, loop .inv .1, place-hit (args .names .now) (loop .i) (args .name) (loop-test .taken) (if1 .taken))
 
 loop-less : tie.Need-loop-less Inv-loop μ-loop
 loop-less c = omega arith
 
 loop-again : tie.Need-loop-again Inv-loop μ-loop
-loop-again c = (omega arith, omega (arith, c .before .before .before .loop .inv .1, place-miss (c .before .before .before .before .args .names .now) (c .before .before .before .loop .i) (c .before .before .before .before .args .name) (c .before .before .loop-test .taken) (c .if1 .left)))
+loop-again c =
+    let args = c .before .before .before .before .args in
+    let loop = c .before .before .before .loop in
+    let loop-test = c .before .before .loop-test in
+    let if1 = c .if1 in
+    (omega arith, omega (arith, loop .inv .1, place-miss (args .names .now) (loop .i) (args .name) (loop-test .taken) (if1 .left)))
 
 returns-2 : tie.Need-returns-2 Inv-loop μ-loop
-returns-2 c = omega (arith, c .before .loop .inv .1, place-none (c .before .before .args .names .now) (c .before .loop .i) (c .before .before .args .name) (c .loop-test .left))
+returns-2 c =
+    let args = c .before .before .args in
+    let loop = c .before .loop in
+    let loop-test = c .loop-test in
+    omega (arith, loop .inv .1, place-none (args .names .now) (loop .i) (args .name) (loop-test .left))
 
 pub place-of-spec : {M : Type 1} → statement M
 place-of-spec = tie.close (tie.spec Inv-loop μ-loop loop-holds (λ c. search needs) (λ c. search needs) returns (λ c. search needs) loop-less loop-again returns-2)

@@ -1,5 +1,4 @@
 -- `spatial_filter::record_of` meets its contract. Assumes nothing.
-use borrow.Author.Needs.{needs}
 use Rattle.sedona_expr.proofs.spatial_filter.record_of.Statement.{statement}
 use Rattle.sedona_expr.proofs.spatial_filter.record_of.Tie as tie
 

@@ -26,7 +26,11 @@ loop-holds : tie.Need-loop-holds Inv-loop μ-loop
 loop-holds c = (omega arith, (length-replicate {A = ℕ} 1024 0, λ m h. getD-replicate 1024 m 0 0 h))
 
 mark-children-requires : tie.Need-mark-children-requires Inv-loop μ-loop
-mark-children-requires c κs = marks-small (c .before .before .loop .marks) (c .before .before .before .before .before .args .nodes .now) (c .before .before .loop .node) (omega (arith, c .before .before .before .before .before .pre, c .before .before .loop .inv .0)) (c .before .before .loop .inv .1)
+mark-children-requires c κs =
+    let args = c .before .before .before .before .before .args in
+    let pre = c .before .before .before .before .before .pre in
+    let loop = c .before .before .loop in
+    marks-small (loop .marks) (args .nodes .now) (loop .node) (omega (arith, pre, loop .inv .0)) (loop .inv .1)
 
 add-node : tie.Need-add-node Inv-loop μ-loop
 add-node c = record { fits = omega (arith, c .before .before .before .before .before .before .pre) }
@@ -35,7 +39,11 @@ loop-less : tie.Need-loop-less Inv-loop μ-loop
 loop-less c = omega arith
 
 loop-again : tie.Need-loop-again Inv-loop μ-loop
-loop-again c = (omega arith, uses-next (c .before .before .before .before .before .before .args .nodes .now) (c .before .before .before .loop .marks) (c .mark-children .last .0) (c .before .before .before .loop .node) (c .before .before .before .loop .inv .1) (c .mark-children .ensures))
+loop-again c =
+    let args = c .before .before .before .before .before .before .args in
+    let loop = c .before .before .before .loop in
+    let mark-children = c .mark-children in
+    (omega arith, uses-next (args .nodes .now) (loop .marks) (mark-children .last .0) (loop .node) (loop .inv .1) (mark-children .ensures))
 
 sub-are-once : tie.Need-sub-are-once Inv-loop μ-loop
 sub-are-once c = omega arith
@@ -45,11 +53,25 @@ are-once-requires c κs = omega (arith, c .before .before .before .before .befor
 
 returns-2 : tie.Need-returns-2 Inv-loop μ-loop
 unfolding usesRefusal
-returns-2 c = rw (← once (c .before .before .before .before .before .before .before .args .nodes .now) (c .before .before .before .before .loop .marks) (c .before .before .before .before .loop .node) (c .before .before .before .before .loop .inv .0) (c .before .before .before .loop-test .left) (c .before .before .before .before .before .before .before .pre) (c .before .before .before .before .loop .inv .1), ← c .before .are-once .ensures, c .if2 .taken)
+returns-2 c =
+    let args = c .before .before .before .before .before .before .before .args in
+    let pre = c .before .before .before .before .before .before .before .pre in
+    let loop = c .before .before .before .before .loop in
+    let loop-test = c .before .before .before .loop-test in
+    let are-once = c .before .are-once in
+    let if2 = c .if2 in
+    rw (← once (args .nodes .now) (loop .marks) (loop .node) (loop .inv .0) (loop-test .left) (pre) (loop .inv .1), ← are-once .ensures, if2 .taken)
 
 returns-3 : tie.Need-returns-3 Inv-loop μ-loop
 unfolding usesRefusal
-returns-3 c = rw (← once (c .before .before .before .before .before .before .before .args .nodes .now) (c .before .before .before .before .loop .marks) (c .before .before .before .before .loop .node) (c .before .before .before .before .loop .inv .0) (c .before .before .before .loop-test .left) (c .before .before .before .before .before .before .before .pre) (c .before .before .before .before .loop .inv .1), ← c .before .are-once .ensures, c .if2 .left)
+returns-3 c =
+    let args = c .before .before .before .before .before .before .before .args in
+    let pre = c .before .before .before .before .before .before .before .pre in
+    let loop = c .before .before .before .before .loop in
+    let loop-test = c .before .before .before .loop-test in
+    let are-once = c .before .are-once in
+    let if2 = c .if2 in
+    rw (← once (args .nodes .now) (loop .marks) (loop .node) (loop .inv .0) (loop-test .left) (pre) (loop .inv .1), ← are-once .ensures, if2 .left)
 
 pub uses-refusal-spec : {M : Type 1} → statement M
 uses-refusal-spec = tie.close (tie.spec Inv-loop μ-loop returns loop-holds (λ c. search needs) mark-children-requires add-node loop-less loop-again sub-are-once are-once-requires returns-2 returns-3)
