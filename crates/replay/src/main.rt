@@ -1,36 +1,19 @@
 // Reads cases from standard input and writes them, with their answers, to standard output. Each
 // byte is copied as it is read; before the end of a line comes the reply to it.
-mod answer;
-mod boxes;
-mod calls;
-mod digits;
-mod draws;
-mod filter_draws;
-mod filters;
-mod folds;
-mod lent;
+mod kept;
 mod line;
-mod output;
-mod read;
-mod records;
-mod reply;
-mod sweep;
-mod tables;
-mod words;
-mod write;
 
+use kept::Kept;
 use libc::STDIN_FILENO;
-use line::Kept;
 use line::Line;
 use line::SIZE;
-use line::outcome_of;
 use line::push;
-use output::Buffer;
-use output::flush;
-use output::put;
-use reply::put_reply;
-use tables::MOST_NODE_WORDS;
-use tables::Nodes;
+use line::take_line;
+use replay_filters::tables::MOST_NODE_WORDS;
+use replay_filters::tables::Nodes;
+use replay_text::output::Buffer;
+use replay_text::output::flush;
+use replay_text::output::put;
 
 // What is kept from one byte of the input to the next.
 struct State {
@@ -115,14 +98,12 @@ fn take_bytes(
 
 // Puts the reply to a line, and the line's end.
 fn end_line(before: State, line: &Line, out: &mut Buffer, nodes: &mut Nodes) -> State {
-    let outcome = outcome_of(line, before.length, before.kept, nodes);
-    let reply = outcome.reply;
+    let outcome = take_line(line, before.length, before.kept, nodes, out, before.filled);
     let kept = outcome.kept;
-    let at = put_reply(out, before.filled, reply);
     State {
         kept,
         length: 0,
-        filled: put(out, at, b'\n'),
+        filled: put(out, outcome.filled, b'\n'),
         is_over: before.is_over,
     }
 }

@@ -1,3 +1,0 @@
-pub mod Lends
-pub mod LendsFirst
-pub mod MoreKinds

@@ -1,0 +1,141 @@
+// A call with every tuple of operands from the lists, the first operand slowest.
+use crate::answer::Answer;
+use crate::answer::with_answer;
+use crate::boxes::BOX;
+use crate::boxes::MOST_INTERVALS;
+use crate::boxes::TWO_BOXES;
+use crate::boxes::box_numbered;
+use crate::calls::Call;
+use crate::calls::Takes;
+use crate::calls::make;
+use crate::calls::make_of_boxes;
+use crate::calls::make_of_sets;
+use crate::digits::last_digit;
+use replay_text::digest::Digest;
+use replay_text::digest::Swept;
+use replay_text::words::Doubles;
+use replay_text::words::MOST_WORDS;
+use replay_text::words::Sets;
+
+// The most boxes that the intervals make.
+const MOST_BOXES: usize = MOST_INTERVALS
+    * MOST_INTERVALS
+    * (MOST_INTERVALS + 1)
+    * (MOST_INTERVALS + 1);
+
+// No sweep makes more calls: two boxes are the most that a call takes.
+const MOST_CALLS: usize = MOST_BOXES * MOST_BOXES;
+
+// Makes the calls in the order of the tuples' numbers, up to the first number without a tuple.
+pub fn sweep(call: Call, values: Doubles, ends: Doubles, sets: Sets) -> Swept {
+    let mut digest = Digest::new();
+    let mut count = 0;
+    while count < MOST_CALLS {
+        let turn = turn_at(count, call, values, ends, sets);
+        if turn.rest > 0 {
+            break;
+        }
+        let answer = turn.answer;
+        digest = with_answer(digest, answer);
+        count += 1;
+    }
+    Swept { count, digest }
+}
+
+// The answer to a call whose operands stand in their lists at the digits of a number. What is left
+// of the number is not 0 where it has more digits than there are operands.
+struct Turn {
+    answer: Answer,
+    rest: usize,
+}
+
+impl Turn {
+    // An answer, and what is left.
+    fn new(answer: Answer, rest: usize) -> Turn {
+        Turn { answer, rest }
+    }
+}
+
+// The turn with a number.
+fn turn_at(number: usize, call: Call, values: Doubles, ends: Doubles, sets: Sets) -> Turn {
+    match call.takes() {
+        Takes::Doubles => turn_of_doubles(number, call, values),
+        Takes::Boxes => turn_of_boxes(number, call, ends, values),
+        Takes::Sets => turn_of_sets(number, call, sets),
+    }
+}
+
+// The operands are doubles.
+fn turn_of_doubles(number: usize, call: Call, values: Doubles) -> Turn {
+    let tuple = tuple_at(number, call.operands, values);
+    let operands = tuple.operands;
+    Turn::new(make(call, operands), tuple.rest)
+}
+
+// The operands are two boxes, a box and a double, or a box.
+fn turn_of_boxes(number: usize, call: Call, ends: Doubles, values: Doubles) -> Turn {
+    if call.operands == TWO_BOXES {
+        let second = box_numbered(number, ends);
+        let first = box_numbered(second.rest, ends);
+        let b = first.bounds;
+        let other = second.bounds;
+        return Turn::new(make_of_boxes(call, b, other, 0.0), first.rest);
+    }
+    if call.operands > BOX {
+        let digit = last_digit(number, values.count);
+        let at = digit.place % MOST_WORDS;
+        let first = box_numbered(digit.rest, ends);
+        let b = first.bounds;
+        return Turn::new(make_of_boxes(call, b, b, values.list[at]), first.rest);
+    }
+    let first = box_numbered(number, ends);
+    let b = first.bounds;
+    Turn::new(make_of_boxes(call, b, b, 0.0), first.rest)
+}
+
+// The operands are type sets: two, one or none.
+fn turn_of_sets(number: usize, call: Call, sets: Sets) -> Turn {
+    if call.operands == 0 {
+        return Turn::new(make_of_sets(call, 0, 0), number);
+    }
+    let last = last_digit(number, sets.count);
+    let at = last.place % MOST_WORDS;
+    if call.operands == 1 {
+        return Turn::new(make_of_sets(call, sets.list[at], 0), last.rest);
+    }
+    let first = last_digit(last.rest, sets.count);
+    let first_at = first.place % MOST_WORDS;
+    let answer = make_of_sets(call, sets.list[first_at], sets.list[at]);
+    Turn::new(answer, first.rest)
+}
+
+// Doubles, and what is left of a number whose last digits are their places.
+struct Tuple {
+    operands: [f64; 4],
+    rest: usize,
+}
+
+// So many doubles, by the last digits of a number.
+fn tuple_at(number: usize, operands: usize, values: Doubles) -> Tuple {
+    let mut tuple = Tuple {
+        operands: [0.0; 4],
+        rest: number,
+    };
+    for _ in 0..operands {
+        tuple = tuple.with_digit(values);
+    }
+    tuple
+}
+
+impl Tuple {
+    // Takes the last digit of the rest: its double comes before the others.
+    fn with_digit(self, values: Doubles) -> Tuple {
+        let v = self.operands;
+        let digit = last_digit(self.rest, values.count);
+        let at = digit.place % MOST_WORDS;
+        Tuple {
+            operands: [values.list[at], v[0], v[1], v[2]],
+            rest: digit.rest,
+        }
+    }
+}

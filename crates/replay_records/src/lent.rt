@@ -1,0 +1,39 @@
+// The calls that borrow records, on records that are lent to them here. The forms are those of the
+// walks in proofs/ and in replay_geometry's, a step to a line.
+ghost use mathlib.Core.Path.{_≡_};
+ghost use Prim.Native.Nat.{_≤_, _%_};
+ghost use lib.ListN.{take};
+ghost use Rattle.sedona_expr.specs.Statistics as statistics;
+use sedona_expr::statistics::Folded;
+use sedona_expr::statistics::GeoStatistics;
+use sedona_expr::statistics::Merged;
+use sedona_expr::statistics::fold;
+
+// What `merge` answers, and what a record that is lent to it holds then.
+pub fn merged(a: GeoStatistics, b: GeoStatistics) -> Merged
+    ensures { λ r. ⌜ r ≡ statistics.merge a b ⌝ }
+{
+    let mut lent = a;
+    let number = lent.merge(b);
+    let left = lent;
+    Merged { number, rec: left }
+}
+
+// How many records a list has room for.
+pub const MOST_RECORDS: usize = 40;
+
+// The fold of the first records of a list, which are lent to `fold`. (The remainder changes no count
+// that a list can have.)
+pub fn folded(list: [GeoStatistics; MOST_RECORDS], count: usize) -> Folded
+    ensures { λ r. ⌜ r ≡ statistics.fold (take (count % 41) list) ⌝ }
+{
+    fold_first(list, count % (MOST_RECORDS + 1))
+}
+
+// The same, of no more than there are.
+fn fold_first(list: [GeoStatistics; MOST_RECORDS], count: usize) -> Folded
+    requires { ⌜ count ≤ 40 ⌝ }
+    ensures { λ r. ⌜ r ≡ statistics.fold (take count list) ⌝ }
+{
+    fold(&list[..count])
+}
