@@ -5,7 +5,7 @@ use mathlib.Core.Bool.{Bool, true, false, _||_}
 use mathlib.Core.List.{List, [], _∷_}
 use Prim.Native.Nat.{ℕ}
 use native.Mathlib.Omega.{arith}
-use Rattle.sedona_expr.specs.Statistics.{totalsOverflow, countsOverflow, mergeParts, mergeValue, first, step, foldFrom, fold, refused}
+use Rattle.sedona_expr.specs.Statistics.{totalsOverflow, countsOverflow, mergeParts, mergeValue, first, step, foldFrom, fold}
 use Rattle.sedona_expr.specs.Error as error
 use Rattle.sedona_expr.specs.declared.statistics.GeoStatistics.{GeoStatistics}
 use Rattle.sedona_expr.specs.declared.statistics.Folded.{Folded}

@@ -36,24 +36,24 @@ leaves-zip P Q R g unknown p q = tt
 
 -- ---- what is so of every literal of a table is so of the leaves that it spells
 module _ (t : Table) (P : BoundingBox → Type 0) (every : (i : ℕ) → P (orEmpty (boxAt (t .literals) i))) where
-  abbrev Literals : Filter → Type 0
-  Literals f = EachLeaf (λ v c k. P k) f
+  abbrev Every : Filter → Type 0
+  Every f = EachLeaf (λ v c k. P k) f
 
-  leaves-of-node : (n : ℕ) (below : ℕ → Filter) → ((m : ℕ) → Literals (below m)) → Literals (treeOf t n below)
+  leaves-of-node : (n : ℕ) (below : ℕ → Filter) → ((m : ℕ) → Every (below m)) → Every (treeOf t n below)
   unfolding treeOf leafOf pairOf
   leaves-of-node n below h =
       let k = kind (t .nodes) n in
       let l = h (word (t .nodes) n 1) in
       let r = h (word (t .nodes) n 2) in
       let e = every (word (t .nodes) n 3) in
-      of-cond Literals (isLeaf k) (of-cond Literals (eqb k 0) e e)
-      (of-cond Literals (isPair k) (of-cond Literals (areBelow (t .nodes) n) (of-cond Literals (eqb k 3) (l, r) (l, r)) tt) (of-cond Literals (eqb k 5) tt tt))
+      of-cond Every (isLeaf k) (of-cond Every (eqb k 0) e e)
+      (of-cond Every (isPair k) (of-cond Every (areBelow (t .nodes) n) (of-cond Every (eqb k 3) (l, r) (l, r)) tt) (of-cond Every (eqb k 5) tt tt))
 
-  leaves-below : (n m : ℕ) → Literals (treesBelow t n m)
+  leaves-below : (n m : ℕ) → Every (treesBelow t n m)
   leaves-below zero m = tt
-  leaves-below (suc n) m = of-cond Literals (eqb m n) (leaves-of-node n (treesBelow t n) (leaves-below n)) (leaves-below n m)
+  leaves-below (suc n) m = of-cond Every (eqb m n) (leaves-of-node n (treesBelow t n) (leaves-below n)) (leaves-below n m)
 
-  pub leaves-of-table : (n : ℕ) → Literals (treeAt t n)
+  pub leaves-of-table : (n : ℕ) → Every (treeAt t n)
   unfolding treeAt
   leaves-of-table n = leaves-of-node n (treesBelow t n) (leaves-below n)
 

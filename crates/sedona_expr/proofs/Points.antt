@@ -1,56 +1,20 @@
 -- A point, and what contains it: all there is, a literal that has a common number with it, and a literal that it contains. Assumes nothing.
 use mathlib.Core.Path.{_≡_, refl}
-use mathlib.Core.Logic.{_↔_}
-use mathlib.Core.Bool.{Bool, true, false, _&&_}
-use native.Mathlib.Omega.{arith}
-use lib.Dec.{T}
-use lib.Ieee.{Float, eq}
-use lib.Ieee.Fits.{and-l, and-i}
+use mathlib.Core.Bool.{true, false}
 use Rattle.sedona_geometry.specs.Interval as interval
-use Rattle.sedona_geometry.specs.WraparoundInterval as wraparound
 use Rattle.sedona_geometry.specs.BoundingBox as boundingBox
 use Rattle.sedona_geometry.specs.BoundingBox.{Doubles, testKnown, dimensionsContain}
 use Rattle.sedona_geometry.specs.declared.interval.Interval.{Interval}
-use Rattle.sedona_geometry.specs.declared.interval.WraparoundInterval.{WraparoundInterval}
 use Rattle.sedona_geometry.specs.declared.bounding_box.Dimension as Dimension
 use Rattle.sedona_geometry.specs.declared.bounding_box.Dimension.{Dimension}
 use Rattle.sedona_geometry.specs.declared.bounding_box.BoundingBox.{BoundingBox}
-use Rattle.sedona_geometry.proofs.Order.{Number, infinite, finite, Le, holds, is-true, le-of-eq, le-refl, le-trans, le-number, eq-inf, eq-fin, →le-fin, bottom, top}
+use Rattle.sedona_geometry.proofs.Order.{infinite, Le, holds, le-of-eq, le-back, le-trans, le-number, bottom, top}
 use Rattle.sedona_geometry.proofs.Accepts as plain
-use Rattle.sedona_geometry.proofs.Wrapping.{split-plain, low-to-high-plain, plain-of-accepts, infinite-doubles}
-use Rattle.sedona_geometry.proofs.Contains.{Contains, inside, contains}
+use Rattle.sedona_geometry.proofs.Wrapping.{low-to-high-plain, plain-of-accepts, infinite-doubles}
+use Rattle.sedona_geometry.proofs.Contains.{Contains, inside, contains, contains-plain, plain-contains}
 use Rattle.sedona_geometry.proofs.Boxes.{Parts, LowToHigh, LowToHighWhereKnown}
 use Rattle.sedona_expr.specs.SpatialFilter.{full}
 use Rattle.sedona_expr.specs.Demand.{WhereKnown, Each, isPoint, lowToHigh}
-
--- ---- an order of equals
-le-back : {x y : Float} → T (eq x y) → Le y x
-unfolding eq
-le-back {x} {y} h = let n = le-number (le-of-eq {x = x} {y = y} h) in go h (n .0) (n .1)
-  where
-    go : {x y : Float} → T (eq x y) → Number x → Number y → Le y x
-    go {x} h X (infinite {s}) = rw (eq-inf x s h) (le-refl infinite)
-    go h infinite finite = absurd h
-    go h (finite {s} {m} {e}) (finite {s = t} {m = n} {e = d}) =
-        let k = eq-fin s m e t n d .0 h in
-        →le-fin t n d s m e (omega arith)
-
--- ---- an x that does not wrap contains one as its interval does
-plain-contains : {x k : WraparoundInterval} → wraparound.isWraparound x ≡ false → wraparound.isWraparound k ≡ false
-    → (wraparound.containsInterval x k ≡ true) ↔ Contains (x .inner) (k .inner)
-unfolding wraparound.containsInterval
-plain-contains {x} {k} w u =
-    rw (split-plain x w, split-plain k u)
-    (λ h. record { holds = is-true p (and-l p q (holds h)) }, λ c. is-true (p && q) (and-i p q (holds (c .holds)) (holds none)))
-  where
-    p : Bool
-    p = interval.containsInterval (x .inner) (k .inner)
-
-    q : Bool
-    q = interval.containsInterval interval.empty interval.empty
-
-    none : interval.containsInterval interval.empty interval.empty ≡ true
-    none = contains {i = interval.empty} {j = interval.empty} (le-refl infinite) (le-refl infinite) .holds
 
 -- ---- what a point is, and what runs low to high
 pub record Point (i : Interval) : Type 0 where
@@ -92,7 +56,7 @@ full-contains p = contains (bottom (le-number (p .up) .0)) (top (le-number (p .u
 pub full-reaches : {b : BoundingBox} → Doubles b → Each Point b → Parts full b
 unfolding testKnown
 full-reaches D p = record {
-  x = plain-contains (low-to-high-plain (infinite-doubles true false) (bottom infinite)) (low-to-high-plain (D .x) (p .x .up)) .1 (full-contains (p .x));
+  x = plain-contains _ _ (low-to-high-plain (infinite-doubles true false) (bottom infinite)) (low-to-high-plain (D .x) (p .x .up)) (full-contains (p .x));
   y = full-contains (p .y);
   z = refl;
   m = refl;
@@ -115,7 +79,7 @@ module _ (R : Interval → Interval → Type 0) (turn : (i j : Interval) → Poi
 
   turned : {b k : BoundingBox} → Doubles b → Doubles k → Each Point b → Each Ordered k → Pair R b k → Parts k b
   turned {b} {k} D E p l r = record {
-    x = plain-contains (low-to-high-plain (E .x) (l .x)) (low-to-high-plain (D .x) (p .x .up)) .1 (turn (b .x .inner) (k .x .inner) (p .x) (l .x) (r .x));
+    x = plain-contains _ _ (low-to-high-plain (E .x) (l .x)) (low-to-high-plain (D .x) (p .x .up)) (turn (b .x .inner) (k .x .inner) (p .x) (l .x) (r .x));
     y = turn (b .y) (k .y) (p .y) (l .y) (r .y);
     z = dimension-turned (k .z) (b .z) (l .z) (p .z) (r .z);
     m = dimension-turned (k .m) (b .m) (l .m) (p .m) (r .m);
@@ -157,7 +121,7 @@ known-contains (Dimension.Known i) (Dimension.Known j) h = record { holds = h }
 pub contained-reaches : {b k : BoundingBox} → Doubles b → Doubles k → Each Point b → Each Ordered k → Parts b k → Parts k b
 contained-reaches {b} {k} D E p l c =
     turned Contains contained-contains D E p l (record {
-      x = plain-contains (low-to-high-plain (D .x) (p .x .up)) (low-to-high-plain (E .x) (l .x)) .0 (c .x);
+      x = contains-plain _ _ (low-to-high-plain (D .x) (p .x .up)) (c .x) .1;
       y = c .y;
       z = known-contains (b .z) (k .z) (c .z);
       m = known-contains (b .m) (k .m) (c .m);

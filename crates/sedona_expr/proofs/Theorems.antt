@@ -4,12 +4,12 @@ use mathlib.Core.Logic.{_⊎_, inl}
 use mathlib.Core.Path.{_≡_, refl, sym, subst, ap, _∙_}
 use mathlib.Core.Bool.{Bool, true, false, _||_, cond}
 use mathlib.Core.List.{List, [], _∷_, _++_, map}
-use lib.IntN.{ℤ, pos, _+ℤ_, +ℤ-assoc, +ℤ-idr}
+use lib.IntN.{ℤ, pos, +ℤ-assoc, +ℤ-idr}
 use borrow.Author.Tests.{eqb-true, eqb-false}
 use lib.Dec.{eqb}
 use Rattle.sedona_geometry.proofs.Order.{fails}
 use Rattle.sedona_geometry.proofs.Boxes as boxes
-use Rattle.sedona_expr.specs.Statistics.{mergeBboxes, addExtents, leaves, addTotals, sumLeaves, totalsOverflow, countsOverflow, mergeParts, refused, mergeValue, first, foldFrom, fold, All, DoublesWhereKnown, NoLess, Which, geometries, sizeBytes, points, puntal, lineal, polygonal, collection, total, Side, width, height, extent, plus, sum, wholeSum, addAll, PrefixSumsFit, Tree, leaf, node, mergeAnswers, mergeTree, AllLeaves}
+use Rattle.sedona_expr.specs.Statistics.{mergeBboxes, addExtents, addTotals, sumLeaves, totalsOverflow, countsOverflow, mergeParts, refused, mergeValue, foldFrom, fold, All, DoublesWhereKnown, NoLess, Which, geometries, sizeBytes, points, puntal, lineal, polygonal, collection, total, Side, width, height, extent, plus, sum, wholeSum, addAll, PrefixSumsFit, Tree, leaf, node, mergeAnswers, mergeTree, AllLeaves}
 use Rattle.sedona_expr.specs.Error as error
 use Rattle.sedona_expr.specs.declared.statistics.Bbox as Bbox
 use Rattle.sedona_expr.specs.declared.statistics.Bbox.{Bbox}

@@ -4,7 +4,7 @@ use mathlib.Core.Bool.{true}
 use lib.Dec.{T}
 use lib.Ieee.{Float, binary64, le, fits}
 use lib.Ieee.Fits.{and-l, and-r, and-i}
-use Rattle.sedona_geometry.specs.Interval.{Doubles, Accepts, empty, width, intersectsValue, intersectsInterval, isEmpty, mergeInterval, mergeValue}
+use Rattle.sedona_geometry.specs.Interval.{Doubles, Accepts, width, intersectsValue, intersectsInterval, isEmpty, mergeInterval, mergeValue}
 use Rattle.sedona_geometry.specs.declared.interval.Interval.{Interval}
 use Rattle.sedona_geometry.proofs.Order.{Number, Le, holds, is-true, le-refl, le-trans, le-number, eq-inf}
 use Rattle.sedona_geometry.proofs.MinMax.{min-le-left, min-le-right, min-fits, max-ge-left, max-ge-right, max-fits}

@@ -2,9 +2,9 @@
 -- Assumes nothing.
 use mathlib.Core.Path.{_≡_, refl}
 use mathlib.Core.Logic.{_⊎_, ⊎-elim, _↔_}
-use mathlib.Core.Bool.{Bool, true, false, not, _&&_, _||_, cond}
+use mathlib.Core.Bool.{Bool, true, false, not, _&&_, cond}
 use lib.Dec.{not-T}
-use lib.Ieee.{Float, inf, binary64, sub, lt, le, eq, isNan}
+use lib.Ieee.{Float, binary64, sub, lt, le, eq, isNan}
 use lib.Ieee.Fits.{and-l, and-r, and-i}
 use Rattle.sedona_geometry.specs.Float as float
 use Rattle.sedona_geometry.specs.Interval as interval
@@ -96,7 +96,7 @@ merge-straight {x} {y} D E (ordered h) (empty f) = rw (merge-with-empty x y (ord
 merge-straight {x} {y} D E (ordered h) (ordered k) = rw (merge-ordered D E h k) (ordered (merge-low-to-high (y .inner) h))
 
 -- ---- what an x that runs straight contains
-contains-plain : (x k : WraparoundInterval) → isWraparound x ≡ false → containsInterval x k ≡ true → (isWraparound k ≡ false) × Contains (x .inner) (k .inner)
+pub contains-plain : (x k : WraparoundInterval) → isWraparound x ≡ false → containsInterval x k ≡ true → (isWraparound k ≡ false) × Contains (x .inner) (k .inner)
 unfolding containsInterval
 contains-plain x k w h = go (isWraparound k) refl
   where
@@ -110,7 +110,7 @@ contains-plain x k w h = go (isWraparound k) refl
     go true u = absurd (top-not-bottom (below-bottom (inside (rw (split-plain x w, split-wrapped k u) at second) .1)))
     go false u = (u, rw (split-plain x w, split-plain k u) at first)
 
-plain-contains : (x k : WraparoundInterval) → isWraparound x ≡ false → isWraparound k ≡ false → Contains (x .inner) (k .inner) → containsInterval x k ≡ true
+pub plain-contains : (x k : WraparoundInterval) → isWraparound x ≡ false → isWraparound k ≡ false → Contains (x .inner) (k .inner) → containsInterval x k ≡ true
 unfolding containsInterval
 plain-contains x k w u h =
     rw (split-plain x w, split-plain k u)

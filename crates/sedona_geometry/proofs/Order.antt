@@ -232,6 +232,18 @@ le-refl (infinite {s = true}) = record { test = tt }
 le-refl (infinite {s = false}) = record { test = tt }
 le-refl (finite {s} {m} {e}) = →le-fin s m e s m e (omega arith)
 
+-- what is equal is at most
+pub le-back : {x y : Float} → T (eq x y) → Le y x
+unfolding eq
+le-back {x} {y} h = let n = le-number (le-of-eq {x = x} {y = y} h) in go h (n .0) (n .1)
+  where
+    go : {x y : Float} → T (eq x y) → Number x → Number y → Le y x
+    go {x} h X (infinite {s}) = rw (eq-inf x s h) (le-refl infinite)
+    go h infinite finite = absurd h
+    go h (finite {s} {m} {e}) (finite {s = t} {m = n} {e = d}) =
+        let k = eq-fin s m e t n d .0 h in
+        →le-fin t n d s m e (omega arith)
+
 pub top-not-bottom : inf false ≡ inf true → ⊥
 unfolding le
 top-not-bottom e = subst (λ (z : Float). Le (inf false) z) e (le-refl infinite) .test

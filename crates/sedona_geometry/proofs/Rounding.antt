@@ -15,7 +15,7 @@ use lib.Ieee.Fits.{down-pos, and-l, and-r, round-is}
 use lib.Ieee.Order.{round-mono, drop, kept}
 use lib.Ieee.Scale.{round-same}
 use Rattle.sedona_geometry.specs.Float as float
-use Rattle.sedona_geometry.proofs.Order.{Number, infinite, finite, Le, Lt, over, under, over-mul, under-mul, cross, le-fin→, →le-fin, ℕ-le-or-lt, le-number, lt-number, bottom, top, above-top, below-bottom, le-refl, le-trans, le-or-lt, lt-not-le, lt-le-trans, lt-of-not-le, le-of-eq, nan-or-number, number-no-nan, top-not-bottom}
+use Rattle.sedona_geometry.proofs.Order.{Number, infinite, finite, Le, Lt, over, under, over-mul, under-mul, cross, le-fin→, →le-fin, ℕ-le-or-lt, le-number, lt-number, bottom, top, above-top, below-bottom, le-refl, le-trans, lt-not-le, lt-le-trans, lt-of-not-le, nan-or-number, number-no-nan, top-not-bottom}
 
 -- ---- the other sign turns the order around
 over-not : (s : Bool) (a : ℕ) → over (not s) a ≡ under s a

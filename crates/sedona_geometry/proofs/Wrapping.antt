@@ -1,7 +1,7 @@
 -- What an x accepts, wrapped or not: nothing where it is empty, and nothing is lost by merging. Assumes nothing.
 use mathlib.Core.Path.{_≡_, refl, sym, subst}
 use mathlib.Core.Logic.{_⊎_, inl, inr, ⊎-elim}
-use mathlib.Core.Bool.{Bool, true, false, not, _&&_, _||_, cond}
+use mathlib.Core.Bool.{Bool, true, false, not, _||_, cond}
 use lib.Dec.{T, not-T, T-not}
 use lib.Ieee.{Float, inf, binary64, sub, lt, le, eq, isNan, fits}
 use lib.Ieee.Fits.{and-l, and-r, and-i, inf-fits}

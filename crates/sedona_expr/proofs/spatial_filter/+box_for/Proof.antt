@@ -1,8 +1,7 @@
 -- The proof of the cycle of calls {box_for}: the node number falls. Assumes nothing.
-use mathlib.Core.Path.{_≡_, refl, sym, subst, ap, _∙_}
-use lib.Dec.{eqb}
+use mathlib.Core.Path.{refl, sym, subst, _∙_}
 use borrow.Author.Tests.{eq-eqb, ne-eqb}
-use Rattle.sedona_expr.specs.SpatialFilter.{table, boxFor, pairOf}
+use Rattle.sedona_expr.specs.SpatialFilter.{table, boxFor}
 use Rattle.sedona_expr.proofs.Tables.{says-leaf, says-pair, says-broken, says-other, broken-left, broken-right, leaf-same, pair-and, pair-or}
 use Prim.Native.Nat.{ℕ, _<_}
 use borrow.Fn.Kinds.{In}

@@ -1,5 +1,5 @@
 -- The proof of the cycle of calls {may_match}: the node number falls. Assumes nothing.
-use mathlib.Core.Path.{_≡_, refl, sym, subst, ap, _∙_}
+use mathlib.Core.Path.{refl, sym, subst, _∙_}
 use lib.Dec.{eqb}
 use Rattle.sedona_expr.specs.SpatialFilter.{table, boxes, lookup, recordOf, answer}
 use Rattle.sedona_expr.proofs.Tables.{says-leaf, says-pair, says-broken, says-other, broken-left, broken-right, answer-other}

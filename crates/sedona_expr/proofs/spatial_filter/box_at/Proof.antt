@@ -1,7 +1,7 @@
 -- `spatial_filter::box_at` meets its contract. Assumes nothing.
 use borrow.Author.Tests.{eq-eqb, ne-eqb, lt-ltb, le-ltb}
 use native.Mathlib.Omega.{arith}
-use lib.ListN.{length, List·getD-eq-default}
+use lib.ListN.{List·getD-eq-default}
 use Rattle.sedona_expr.specs.SpatialFilter.{boxAt}
 use borrow.Author.Needs.{needs}
 use Rattle.sedona_expr.proofs.spatial_filter.box_at.Statement.{statement}

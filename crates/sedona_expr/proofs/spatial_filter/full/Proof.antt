@@ -1,5 +1,4 @@
 -- `spatial_filter::full` meets its contract. Assumes nothing.
-use borrow.Author.Needs.{needs}
 use Rattle.sedona_expr.proofs.spatial_filter.full.Statement.{statement}
 use Rattle.sedona_expr.proofs.spatial_filter.full.Tie as tie
 

@@ -1,7 +1,6 @@
 -- `spatial_filter::place` meets its contract. Assumes nothing.
-use mathlib.Core.Path.{_∙_}
 use native.Mathlib.Nat.{zero-add}
-use Rattle.sedona_expr.specs.SpatialFilter.{placeOf, place}
+use Rattle.sedona_expr.specs.SpatialFilter.{place}
 use borrow.Author.Needs.{needs}
 use Rattle.sedona_expr.proofs.spatial_filter.place.Statement.{statement}
 use Rattle.sedona_expr.proofs.spatial_filter.place.Tie as tie

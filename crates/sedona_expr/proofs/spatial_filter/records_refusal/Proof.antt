@@ -1,7 +1,6 @@
 -- `spatial_filter::records_refusal` meets its contract. Assumes nothing.
 use borrow.Author.Tests.{eq-eqb, ne-eqb}
 use Rattle.sedona_expr.specs.SpatialFilter.{orElse, recordsRefusal}
-use borrow.Author.Needs.{needs}
 use Rattle.sedona_expr.proofs.spatial_filter.records_refusal.Statement.{statement}
 use Rattle.sedona_expr.proofs.spatial_filter.records_refusal.Tie as tie
 

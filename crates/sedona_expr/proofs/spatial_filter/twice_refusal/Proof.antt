@@ -1,7 +1,6 @@
 -- `spatial_filter::twice_refusal` meets its contract. Assumes nothing.
 use borrow.Author.Tests.{not-true, not-false}
 use Rattle.sedona_expr.specs.SpatialFilter.{twiceRefusal}
-use borrow.Author.Needs.{needs}
 use Rattle.sedona_expr.proofs.spatial_filter.twice_refusal.Statement.{statement}
 use Rattle.sedona_expr.proofs.spatial_filter.twice_refusal.Tie as tie
 

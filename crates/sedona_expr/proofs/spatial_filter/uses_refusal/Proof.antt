@@ -1,12 +1,8 @@
 -- `spatial_filter::uses_refusal` meets its contract: the marks count the uses. Assumes nothing.
-use mathlib.Core.Path.{_≡_, refl, sym, ap, _∙_}
 use Prim.Native.Nat.{ℕ, _≤_, _-_}
-use native.Mathlib.Nat.{le-antisymm}
 use native.Mathlib.Omega.{arith}
-use lib.Dec.{eqb}
-use lib.ListN.{length, getD, getD-replicate, length-replicate}
-use borrow.Author.Tests.{eq-eqb, ne-eqb}
-use Rattle.sedona_expr.specs.SpatialFilter.{Counted, uses, usesRefusal, allBelow}
+use lib.ListN.{getD-replicate, length-replicate}
+use Rattle.sedona_expr.specs.SpatialFilter.{Counted, uses, usesRefusal}
 use Rattle.sedona_expr.proofs.Tables.{marks-small, uses-next, once}
 use borrow.Author.Needs.{needs}
 use Rattle.sedona_expr.proofs.spatial_filter.uses_refusal.Statement.{statement}
