@@ -1,7 +1,10 @@
 -- The proof of the cycle of calls {box_for}: the node number falls. Assumes nothing.
-use mathlib.Core.Path.{refl, sym, subst, _∙_}
+use mathlib.Core.Path.{_≡_, refl, sym, subst, _∙_}
+use mathlib.Core.Bool.{cond}
+use lib.Dec.{eqb}
 use borrow.Author.Tests.{eq-eqb, ne-eqb}
-use Rattle.sedona_expr.specs.SpatialFilter.{table, boxFor}
+use Rattle.sedona_geometry.specs.BoundingBox.{intersection, mergeBox}
+use Rattle.sedona_expr.specs.SpatialFilter.{Filter, literalFalse, unknown, Table, table, literal, treeAt, boxFor, orFull, full, pairOf}
 use Rattle.sedona_expr.proofs.Tables.{says-leaf, says-pair, says-broken, says-other, broken-left, broken-right, leaf-same, pair-and, pair-or}
 use Prim.Native.Nat.{ℕ, _<_}
 use borrow.Fn.Kinds.{In}
@@ -33,27 +36,32 @@ below t = and 3 kinds.ps (falls 3 kinds.ps _<_ μ t) reads.Pre
 abbrev claims : ℕ → lts.Claims
 claims t = (word-reads.Asked, word-reads.Learnt, is-leaf-reads.Asked, is-leaf-reads.Learnt, literal-of-reads.Asked, literal-of-reads.Learnt, full-reads.Asked, full-reads.Learnt, is-pair-reads.Asked, is-pair-reads.Learnt, below t, reads.Post, intersection-or-full-reads.Asked, intersection-or-full-reads.Learnt, merge-box-reads.Asked, merge-box-reads.Learnt, empty-reads.Asked, empty-reads.Learnt)
 
+-- what is lent, and the tree of the node, where the node's kind was read
+abbrev lent : (t : ℕ) → lts.After-word (claims t) (here t) reads.Post → Table
+lent t c = let args = c .before .before .before .before .args in table (args .nodes .now) (args .literals .now) (args .literal-flags .now)
+
+abbrev tree : (t : ℕ) → lts.After-word (claims t) (here t) reads.Post → Filter
+tree t c = treeAt (lent t c) (c .before .before .before .before .args .node)
+
+-- the box of a leaf, by the name that was read
+leaf : (t : ℕ) (c : lts.After-word2 (claims t) (here t) reads.Post)
+    → let w = c .before .before .before in
+    let args = w .before .before .before .before .args in
+    boxFor (args .name) (tree t w) ≡ cond (eqb (c .word2 .result) (args .name)) (literal (lent t w) (args .node)) full
+leaf t c =
+    let w = c .before .before .before in
+    let args = w .before .before .before .before .args in
+    says-leaf (boxFor (args .name)) (lent t w) (args .node) (w .word .result) _ _ (w .word .ensures) refl refl (sym (c .before .before .is-leaf .ensures) ∙ c .before .if1 .taken) ∙ leaf-same (w .word .result) _ ∙ rw (← c .word2 .ensures)
+
 returns : (t : ℕ) → lts.Need-returns (claims t) (here t) reads.Post
 returns t c =
-    let args = c .before .before .before .before .before .before .before .before .before .args in
-    let word = c .before .before .before .before .before .word in
-    let is-leaf = c .before .before .before .before .is-leaf in
-    let if1 = c .before .before .before .if1 in
     let word2 = c .before .before .word2 in
-    let if2 = c .before .if2 in
-    let literal-of = c .literal-of in
-    sym (says-leaf (boxFor (args .name)) (table (args .nodes .now) (args .literals .now) (args .literal-flags .now)) (args .node) (word .result) _ _ (word .ensures) refl refl (sym (is-leaf .ensures) ∙ if1 .taken) ∙ leaf-same (word .result) _ ∙ rw (← word2 .ensures, eq-eqb (word2 .result) (args .name) (if2 .taken), literal-of .ensures))
+    sym (leaf t (c .before .before) ∙ rw (eq-eqb (word2 .result) _ (c .before .if2 .taken), c .literal-of .ensures))
 
 returns-2 : (t : ℕ) → lts.Need-returns-2 (claims t) (here t) reads.Post
 returns-2 t c =
-    let args = c .before .before .before .before .before .before .before .before .before .args in
-    let word = c .before .before .before .before .before .word in
-    let is-leaf = c .before .before .before .before .is-leaf in
-    let if1 = c .before .before .before .if1 in
     let word2 = c .before .before .word2 in
-    let if2 = c .before .if2 in
-    let full = c .full in
-    sym (says-leaf (boxFor (args .name)) (table (args .nodes .now) (args .literals .now) (args .literal-flags .now)) (args .node) (word .result) _ _ (word .ensures) refl refl (sym (is-leaf .ensures) ∙ if1 .taken) ∙ leaf-same (word .result) _ ∙ rw (← word2 .ensures, ne-eqb (word2 .result) (args .name) (if2 .left), full .ensures))
+    sym (leaf t (c .before .before) ∙ rw (ne-eqb (word2 .result) _ (c .before .if2 .left), c .full .ensures))
 
 returns-3 : (t : ℕ) → lts.Need-returns-3 (claims t) (here t) reads.Post
 returns-3 t c =
@@ -94,61 +102,41 @@ box-for-requires-2 t c κs =
     let if5 = c .before .if5 in
     (subst (λ (n : ℕ). word4 .result < n) (pre .0) (if5 .left), tt)
 
+-- the box of a pair, by those of its children
+pair : (t : ℕ) (c : lts.After-box-for2 (claims t) (here t) reads.Post)
+    → let w = c .before .before .before .before .before .before .before .before .before .before in
+    boxFor (w .before .before .before .before .args .name) (tree t w) ≡ pairOf (w .word .result) (orFull (intersection (c .before .box-for .result) (c .box-for2 .result))) (mergeBox (c .before .box-for .result) (c .box-for2 .result))
+pair t c =
+    let w = c .before .before .before .before .before .before .before .before .before .before in
+    let args = w .before .before .before .before .args in
+    let is-pair = c .before .before .before .before .before .before .before .is-pair in
+    let if3 = c .before .before .before .before .before .before .if3 in
+    let word3 = c .before .before .before .before .before .word3 in
+    let word4 = c .before .before .before .before .word4 in
+    let if4 = c .before .before .before .if4 in
+    let if5 = c .before .before .if5 in
+    says-pair (boxFor (args .name)) (lent t w) (args .node) (w .word .result) (word3 .result) (word4 .result) (w .word .ensures) (word3 .ensures) (word4 .ensures) (sym (is-pair .ensures) ∙ if3 .taken) (if4 .left) (if5 .left) ∙ rw (← c .before .box-for .ensures, ← c .box-for2 .ensures)
+
 returns-5 : (t : ℕ) → lts.Need-returns-5 (claims t) (here t) reads.Post
-returns-5 t c =
-    let args = c .before .before .before .before .before .before .before .before .before .before .before .before .before .before .before .before .args in
-    let word = c .before .before .before .before .before .before .before .before .before .before .before .before .word in
-    let is-pair = c .before .before .before .before .before .before .before .before .before .is-pair in
-    let if3 = c .before .before .before .before .before .before .before .before .if3 in
-    let word3 = c .before .before .before .before .before .before .before .word3 in
-    let word4 = c .before .before .before .before .before .before .word4 in
-    let if4 = c .before .before .before .before .before .if4 in
-    let if5 = c .before .before .before .before .if5 in
-    let box-for = c .before .before .before .box-for in
-    let box-for2 = c .before .before .box-for2 in
-    let if6 = c .before .if6 in
-    let intersection-or-full = c .intersection-or-full in
-    rw (intersection-or-full .ensures, box-for .ensures, box-for2 .ensures) (sym (says-pair (boxFor (args .name)) (table (args .nodes .now) (args .literals .now) (args .literal-flags .now)) (args .node) (word .result) (word3 .result) (word4 .result) (word .ensures) (word3 .ensures) (word4 .ensures) (sym (is-pair .ensures) ∙ if3 .taken) (if4 .left) (if5 .left) ∙ pair-and (word .result) _ _ (if6 .taken)))
+returns-5 t c = c .intersection-or-full .ensures ∙ sym (pair t (c .before .before) ∙ pair-and _ _ _ (c .before .if6 .taken))
 
 returns-6 : (t : ℕ) → lts.Need-returns-6 (claims t) (here t) reads.Post
-returns-6 t c =
-    let args = c .before .before .before .before .before .before .before .before .before .before .before .before .before .before .before .before .args in
-    let word = c .before .before .before .before .before .before .before .before .before .before .before .before .word in
-    let is-pair = c .before .before .before .before .before .before .before .before .before .is-pair in
-    let if3 = c .before .before .before .before .before .before .before .before .if3 in
-    let word3 = c .before .before .before .before .before .before .before .word3 in
-    let word4 = c .before .before .before .before .before .before .word4 in
-    let if4 = c .before .before .before .before .before .if4 in
-    let if5 = c .before .before .before .before .if5 in
-    let box-for = c .before .before .before .box-for in
-    let box-for2 = c .before .before .box-for2 in
-    let if6 = c .before .if6 in
-    let merge-box = c .merge-box in
-    rw (merge-box .ensures, box-for .ensures, box-for2 .ensures) (sym (says-pair (boxFor (args .name)) (table (args .nodes .now) (args .literals .now) (args .literal-flags .now)) (args .node) (word .result) (word3 .result) (word4 .result) (word .ensures) (word3 .ensures) (word4 .ensures) (sym (is-pair .ensures) ∙ if3 .taken) (if4 .left) (if5 .left) ∙ pair-or (word .result) _ _ (if6 .left)))
+returns-6 t c = c .merge-box .ensures ∙ sym (pair t (c .before .before) ∙ pair-or _ _ _ (c .before .if6 .left))
+
+-- the box of any other node
+other : (t : ℕ) (c : lts.Else3 (claims t) (here t) reads.Post)
+    → let w = c .before .before .before .before in
+    boxFor (w .before .before .before .before .args .name) (tree t w) ≡ boxFor (w .before .before .before .before .args .name) (cond (eqb (w .word .result) 5) literalFalse unknown)
+other t c =
+    let w = c .before .before .before .before in
+    let args = w .before .before .before .before .args in
+    says-other (boxFor (args .name)) (lent t w) (args .node) (w .word .result) _ _ (w .word .ensures) refl refl (sym (c .before .before .before .is-leaf .ensures) ∙ c .before .before .if1 .left) (sym (c .before .is-pair .ensures) ∙ c .if3 .left)
 
 returns-7 : (t : ℕ) → lts.Need-returns-7 (claims t) (here t) reads.Post
-returns-7 t c =
-    let args = c .before .before .before .before .before .before .before .before .before .before .args in
-    let word = c .before .before .before .before .before .before .word in
-    let is-leaf = c .before .before .before .before .before .is-leaf in
-    let if1 = c .before .before .before .before .if1 in
-    let is-pair = c .before .before .before .is-pair in
-    let if3 = c .before .before .if3 in
-    let if7 = c .before .if7 in
-    let empty = c .empty in
-    empty .ensures ∙ sym (says-other (boxFor (args .name)) (table (args .nodes .now) (args .literals .now) (args .literal-flags .now)) (args .node) (word .result) _ _ (word .ensures) refl refl (sym (is-leaf .ensures) ∙ if1 .left) (sym (is-pair .ensures) ∙ if3 .left) ∙ rw (eq-eqb (word .result) 5 (if7 .taken)))
+returns-7 t c = c .empty .ensures ∙ sym (other t (c .before .before) ∙ rw (eq-eqb _ 5 (c .before .if7 .taken)))
 
 returns-8 : (t : ℕ) → lts.Need-returns-8 (claims t) (here t) reads.Post
-returns-8 t c =
-    let args = c .before .before .before .before .before .before .before .before .before .before .args in
-    let word = c .before .before .before .before .before .before .word in
-    let is-leaf = c .before .before .before .before .before .is-leaf in
-    let if1 = c .before .before .before .before .if1 in
-    let is-pair = c .before .before .before .is-pair in
-    let if3 = c .before .before .if3 in
-    let if7 = c .before .if7 in
-    let full4 = c .full4 in
-    full4 .ensures ∙ sym (says-other (boxFor (args .name)) (table (args .nodes .now) (args .literals .now) (args .literal-flags .now)) (args .node) (word .result) _ _ (word .ensures) refl refl (sym (is-leaf .ensures) ∙ if1 .left) (sym (is-pair .ensures) ∙ if3 .left) ∙ rw (ne-eqb (word .result) 5 (if7 .left)))
+returns-8 t c = c .full4 .ensures ∙ sym (other t (c .before .before) ∙ rw (ne-eqb _ 5 (c .before .if7 .left)))
 
 pub +box-for-spec : {M : Type 1} → statement M
 +box-for-spec = close μ (λ t. lts.spec (claims t) (here t) reads.Post (λ c κs. tt) (λ c κs. tt) (λ c κs. tt) (λ c κs. tt) (returns t) (λ c κs. tt) (returns-2 t) (λ c κs. tt) (λ c κs. tt) (λ c κs. tt) (λ c κs. tt) (returns-3 t) (λ c κs. tt) (returns-4 t) (box-for-requires t) (box-for-requires-2 t) (λ c κs. tt) (returns-5 t) (λ c κs. tt) (returns-6 t) (λ c κs. tt) (returns-7 t) (λ c κs. tt) (returns-8 t))
