@@ -137,9 +137,13 @@ mergeValue a b = cond (totalsOverflow a b || countsOverflow a b) (refused error.
 
 -- ---- the lent record, and the fold
 
--- What `merge` answers and leaves: where it is refused, the record as it was.
-unfoldable pub merge : GeoStatistics → GeoStatistics → Merged
-merge a b = record { number = mergeValue a b .number; rec = cond (eqb (mergeValue a b .number) 0) (mergeValue a b .rec) a }
+-- A merge by value that keeps the first record where it is refused.
+unfoldable pub mergeOrKeep : GeoStatistics → GeoStatistics → Merged
+mergeOrKeep a b = record { number = mergeValue a b .number; rec = cond (eqb (mergeValue a b .number) 0) (mergeValue a b .rec) a }
+
+-- What `merge` answers, and what the lent record holds then.
+abbrev pub merge : GeoStatistics → GeoStatistics → Merged
+merge a b = mergeOrKeep a b
 
 -- Of no records.
 abbrev pub start : Folded

@@ -701,7 +701,8 @@ fn evaluate(
     }
 }
 
-// Whether the filter may match a file, whose records are the columns' by their places.
+// Whether the filter may match a file, whose records are the columns' by their places. (No name is
+// read then; the nodes are lent in their stead.)
 pub fn evaluate_by_position(
     nodes: &[u32],
     literals: &[f64],
@@ -744,7 +745,8 @@ pub fn evaluate_by_name(
     )
 }
 
-// The box that every match lies in, in the column of a name.
+// The filter's box in the column of a name. Demand 3 says which rows it reaches; it can be empty
+// where a file may match (P10).
 pub fn filter_bbox(nodes: &[u32], literals: &[f64], literal_flags: &[u8], name: u32) -> FilterBox
     ensures { λ r. ⌜ r ≡ filter.filterBbox (filter.table (now (nodes .entry)) (now (literals .entry)) (now («literal_flags» .entry))) name ⌝ }
 {

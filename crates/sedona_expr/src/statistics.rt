@@ -276,7 +276,7 @@ impl GeoStatistics {
 
     // Both records in one; where that is refused, this record beside the number.
     fn merge_or_keep(self, other: GeoStatistics) -> Merged
-        ensures { λ r. ⌜ r ≡ statistics.merge self other ⌝ }
+        ensures { λ r. ⌜ r ≡ statistics.mergeOrKeep self other ⌝ }
     {
         let out = self.merge_value(other);
         if out.number == 0 {

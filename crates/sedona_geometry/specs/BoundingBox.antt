@@ -71,6 +71,10 @@ unfoldable pub mergeBox : BoundingBox → BoundingBox → BoundingBox
 mergeBox a b =
     xyzm (wraparound.mergeInterval (a .x) (b .x)) (interval.mergeInterval (a .y) (b .y)) (mergeDimensions (a .z) (b .z)) (mergeDimensions (a .m) (b .m))
 
+-- What the lent box holds after `update_box`.
+abbrev pub updateBox : BoundingBox → BoundingBox → BoundingBox
+updateBox a b = mergeBox a b
+
 -- A number alone: the box beside it is empty.
 abbrev pub refused : ℕ → Intersected
 refused n = record { number = n; bounds = empty }

@@ -159,7 +159,7 @@ impl BoundingBox {
 
     // The lent box becomes one around both.
     pub fn update_box(&mut self, other: BoundingBox)
-        ensures { λ _. ⌜ now (self .exit) ≡ boundingBox.mergeBox (now (self .entry)) other ⌝ }
+        ensures { λ _. ⌜ now (self .exit) ≡ boundingBox.updateBox (now (self .entry)) other ⌝ }
     {
         let old = *self;
         let new = old.merge_box(other);

@@ -9,7 +9,7 @@ use denote.Struct.Laws as LL
 use denote.Triple.Spec.{tripleOf}
 use denote.Triple.Table.{entered, cited}
 use Rattle.sedona_geometry.proofs.Kind.{Kind, Laws, struct-kind, struct-laws, uint-kind, uint-laws}
-use Rattle.sedona_expr.specs.Statistics.{merge}
+use Rattle.sedona_expr.specs.Statistics.{mergeOrKeep, merge}
 use Rattle.sedona_expr.specs.declared.statistics.Merged.{Merged}
 use Rattle.sedona_expr.proofs.UpdateOut.{meets}
 use Rattle.sedona_expr.proofs.statistics.GeoStatistics as T
@@ -39,9 +39,9 @@ merge-spec 𝓤 H 𝓜 𝓖 𝓡 =
     (meets S S (uint-kind w32) LS LS (uint-laws w32) Merged (O.the-type .name) (O.the-row .written) (O.the-row .reaches) (O.the-row .own) (O.the-row .coded)
     (struct-laws O.the-type O′.the-laws O′.the-plain O′.the-copy) (λ r. r .number) (λ r. r .rec) (λ r. refl)
     (λ r v is. (LL.owed O.the-type O′.the-laws r (v ∷ []) is .0, LL.owed O.the-type O′.the-laws r (v ∷ []) is .1 .0))
-    #merge-or-keep (λ h c. Unit {0}) (λ h c r. r ≡ merge h c) 𝓤 H (𝓖 .A) (givenOf 𝓤 H 𝓜 𝓖)
-    (λ h c. emp 𝓤) (λ h c m r. fact 𝓤 ((m ≡ merge h c .number) × (r ≡ merge h c .rec))) (λ h c. emp 𝓤) (λ h c r. fact 𝓤 (r ≡ merge h c))
-    (λ h c. factI 𝓤 (Unit {0}) (emp 𝓤) tt) (λ h c _. id⊢ 𝓤 (emp 𝓤)) (λ h c r. id⊢ 𝓤 (fact 𝓤 (r ≡ merge h c)))
+    #merge-or-keep (λ h c. Unit {0}) (λ h c r. r ≡ mergeOrKeep h c) 𝓤 H (𝓖 .A) (givenOf 𝓤 H 𝓜 𝓖)
+    (λ h c. emp 𝓤) (λ h c m r. fact 𝓤 ((m ≡ merge h c .number) × (r ≡ merge h c .rec))) (λ h c. emp 𝓤) (λ h c r. fact 𝓤 (r ≡ mergeOrKeep h c))
+    (λ h c. factI 𝓤 (Unit {0}) (emp 𝓤) tt) (λ h c _. id⊢ 𝓤 (emp 𝓤)) (λ h c r. id⊢ 𝓤 (fact 𝓤 (r ≡ mergeOrKeep h c)))
     (λ h c r _ e. factI 𝓤 ((r .number ≡ merge h c .number) × (r .rec ≡ merge h c .rec)) (emp 𝓤) (ap (λ (y : Merged). y .number) e, ap (λ (y : Merged). y .rec) e))
     (tablesOf 𝓤 H 𝓜 (tables 𝓤 H 𝓜 𝓡 code.env))
     (cited 𝓤 H (tripleOf 𝓤 H (𝓖 .A) called.signature (called.spec 𝓤 H (𝓖 .A) (𝓜 .mem) (𝓡 .run))) 𝓜 𝓡 code.env #merge-or-keep called-def.routine code.calls-sedona-expr·statistics·GeoStatistics·merge-or-keep (called-thm.met 𝓤 H 𝓜 𝓖 𝓡)))
