@@ -1,18 +1,21 @@
--- The hypotheses of the laws can be met: by a wrapped x and one that crosses its end, and by two boxes around a third. Assumes nothing.
+-- The hypotheses of the laws can be met: by a wrapped x, one that crosses its end and a value between its ends, and by two boxes around a third. Assumes nothing.
 use mathlib.Core.Path.{_≡_, refl}
-use mathlib.Core.Bool.{true}
+use mathlib.Core.Bool.{true, false}
 use mathlib.Core.Logic.{inl, inr}
 use Prim.Native.Nat.{ℕ}
 use lib.IntN.{pos}
+use lib.Dec.{T}
 use lib.Ieee.{Float, binary64, fits, sub, lt, le, eq, isNan, round, ofInt}
+use Rattle.sedona_geometry.specs.Float as float
 use Rattle.sedona_geometry.specs.Interval as interval
 use Rattle.sedona_geometry.specs.WraparoundInterval as wraparound
 use Rattle.sedona_geometry.specs.BoundingBox.{xyzm, testKnown, intersects, mergeBox, Doubles, NoLess, Common}
 use Rattle.sedona_geometry.specs.declared.interval.WraparoundInterval.{WraparoundInterval}
 use Rattle.sedona_geometry.specs.declared.bounding_box.Dimension.the-variants.{Missing, Known}
 use Rattle.sedona_geometry.specs.declared.bounding_box.BoundingBox.{BoundingBox}
+use Rattle.sedona_geometry.proofs.Order.{Number, Lt, holds, fails, number-of-test}
 use Rattle.sedona_geometry.proofs.Wrapping as wrapping
-use Rattle.sedona_geometry.proofs.Contains.{Straight, ordered}
+use Rattle.sedona_geometry.proofs.Contains.{Straight, ordered, x-intersection-accepts}
 use Rattle.sedona_geometry.proofs.Boxes as boxes
 use Rattle.sedona_geometry.proofs.Boxes.{Parts, LowToHigh, met}
 
@@ -20,7 +23,7 @@ abbrev plus : ℕ → Float
 plus n = ofInt binary64 (pos n)
 
 -- ---- x
-abbrev wrapped : WraparoundInterval
+abbrev pub wrapped : WraparoundInterval
 wrapped = wraparound.new (plus 170) (plus 10)
 
 abbrev crossing : WraparoundInterval
@@ -47,6 +50,31 @@ they-intersect = wrapping.common-intersect (common-x .left) (common-x .right)
 
 pub merged-accepts : wraparound.Accepts (wraparound.mergeInterval wrapped crossing) (common-x .number)
 merged-accepts = wrapping.merge-accepts wrapped-doubles crossing-doubles (inr (common-x .right))
+
+-- a value that the wrapped x does not accept: it lies between the ends, and both distances are above 0
+abbrev pub value : Float
+value = plus 90
+
+value-fits : T (fits binary64 value)
+unfolding fits round ofInt
+value-fits = tt
+
+value-number : Number value
+unfolding isNan round ofInt
+value-number = number-of-test value refl
+
+not-accepted : wraparound.intersectsValue wrapped value ≡ false
+unfolding sub lt le eq isNan round ofInt interval.intersectsValue interval.isEmpty wraparound.isWraparound wraparound.split wraparound.intersectsValue
+not-accepted = refl
+
+pub distances : Lt float.zero (sub binary64 value (wrapped .inner .hi)) × Lt float.zero (sub binary64 (wrapped .inner .lo) value)
+distances = wrapping.distances-positive {x = wrapped} {v = value} wrapped-doubles value-fits wraps value-number (λ h. fails not-accepted (holds (h .holds)))
+
+pub value-accepted : wraparound.Accepts (wraparound.mergeValue wrapped value) value
+value-accepted = wrapping.merge-value-accepts wrapped-doubles value-fits value-number
+
+pub number-kept : wraparound.Accepts (wraparound.mergeValue wrapped value) (common-x .number)
+number-kept = wrapping.merge-value-keeps value wrapped-doubles value-fits (common-x .left)
 
 -- ---- boxes: a and b, of which one knows z and the other m, around k
 abbrev pub a : BoundingBox
@@ -86,7 +114,7 @@ b-contains : Parts b k
 unfolding sub lt le eq isNan round ofInt interval.containsInterval interval.isEmpty wraparound.isWraparound wraparound.split wraparound.containsInterval testKnown
 b-contains = record { x = refl; y = record { holds = refl }; z = refl; m = refl }
 
-common : Common a b
+pub common : Common a b
 unfolding fits sub lt le eq isNan round ofInt interval.intersectsValue interval.isEmpty wraparound.isWraparound wraparound.split wraparound.intersectsValue
 common = record {
   x = record { number = plus 2; double = tt; left = record { holds = refl }; right = record { holds = refl } };
@@ -106,3 +134,7 @@ merged-contains = boxes.merge-contains a-doubles b-doubles a-straight b-straight
 
 pub met-contains : Parts (met a b) k
 met-contains = boxes.intersection-contains a-doubles b-doubles a-straight b-straight k-low-to-high a-contains b-contains
+
+pub met-accepts : wraparound.Accepts (met a b .x) (common .x .number)
+unfolding lt le eq round ofInt
+met-accepts = x-intersection-accepts (a-doubles .x) (b-doubles .x) (record { test = tt }) (record { test = tt }) .1 (common .x .left, common .x .right)
