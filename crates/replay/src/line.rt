@@ -7,14 +7,10 @@ use crate::kept::NO_SETTING;
 use crate::kept::setting_named;
 use bytes::scan::find;
 use check::same;
-use replay_filters::answer::put_evaluation;
-use replay_filters::answer::put_filter_box;
-use replay_filters::filters::bbox_of;
-use replay_filters::filters::evaluate;
+use replay_filters::calls as filter_calls;
 use replay_filters::filters::filter_tables;
 use replay_filters::tables::Nodes;
 use replay_geometry::calls as geometry_calls;
-use replay_geometry::sweep as geometry_sweep;
 use replay_records::calls as record_calls;
 use replay_records::folds::fold_lists;
 use replay_text::digest::put_swept;
@@ -161,20 +157,10 @@ fn put_case(
     kept: Kept,
     nodes: &Nodes,
 ) -> usize {
-    if words.count == 0 && same(first, b"SpatialFilter::evaluate_by_position") {
-        return put_evaluation(out, filled, evaluate(nodes, kept.tables(), false));
+    let of_filters = filter_calls::call_named(first);
+    if of_filters < filter_calls::NO_CALL {
+        return filter_calls::put_call(out, filled, of_filters, words, nodes, kept.tables());
     }
-    if words.count == 0 && same(first, b"SpatialFilter::evaluate_by_name") {
-        return put_evaluation(out, filled, evaluate(nodes, kept.tables(), true));
-    }
-    if words.is_number() && same(first, b"SpatialFilter::filter_bbox") {
-        return put_filter_box(out, filled, bbox_of(nodes, kept.tables(), words.sets[0]));
-    }
-    put_call(out, filled, first, words)
-}
-
-// A single case by its operands.
-fn put_call(out: &mut Buffer, filled: usize, first: &[u8], words: Words) -> usize {
     let of_records = record_calls::call_named(first);
     if of_records < record_calls::NO_CALL {
         return record_calls::put_call(out, filled, of_records, words);
