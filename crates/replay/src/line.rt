@@ -102,10 +102,10 @@ fn put_reply(
         return put_sweep(out, filled, rest, kept);
     }
     if same(first, b"folds") {
-        return put_folds(out, filled, words);
+        return put_drawn(out, filled, words, false);
     }
     if same(first, b"filters") {
-        return put_filters(out, filled, words);
+        return put_drawn(out, filled, words, true);
     }
     put_case(out, filled, first, words, kept, nodes)
 }
@@ -132,20 +132,17 @@ fn put_sweep(out: &mut Buffer, filled: usize, rest: &[u8], kept: Kept) -> usize 
     put_unknown(out, filled)
 }
 
-// A `folds` line: the first seed, and how many lists.
-fn put_folds(out: &mut Buffer, filled: usize, words: Words) -> usize {
-    if words.are_sets && words.count == 2 {
-        return put_swept(out, filled, fold_lists(words.sets[0], words.sets[1]));
+// A line with the first seed and how many are drawn from it on: lists of records, or tables.
+fn put_drawn(out: &mut Buffer, filled: usize, words: Words, is_of_tables: bool) -> usize {
+    if !words.are_sets || words.count != 2 {
+        return put_unknown(out, filled);
     }
-    put_unknown(out, filled)
-}
-
-// A `filters` line: the first seed, and how many tables.
-fn put_filters(out: &mut Buffer, filled: usize, words: Words) -> usize {
-    if words.are_sets && words.count == 2 {
-        return put_swept(out, filled, filter_tables(words.sets[0], words.sets[1]));
+    let seed = words.sets[0];
+    let count = words.sets[1];
+    if is_of_tables {
+        return put_swept(out, filled, filter_tables(seed, count));
     }
-    put_unknown(out, filled)
+    put_swept(out, filled, fold_lists(seed, count))
 }
 
 // A single case, over the tables or by its operands.

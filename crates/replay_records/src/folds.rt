@@ -1,5 +1,6 @@
 // Folds of lists of records: given ones, and ones drawn from a seed as the oracle draws them.
 use crate::answer::with_merged;
+use crate::lent::MOST_RECORDS;
 use crate::lent::folded;
 use replay_geometry::draws::draw;
 use replay_geometry::draws::interval;
@@ -16,9 +17,6 @@ use sedona_geometry::bounding_box::BoundingBox;
 use sedona_geometry::bounding_box::Dimension;
 use sedona_geometry::interval::WraparoundInterval;
 use sedona_geometry::types::GeometryTypeAndDimensionsSet;
-
-// The most records of a list.
-const MOST_RECORDS: usize = 40;
 
 // From this mood on a list has totals and extents of note.
 const OF_NOTE: usize = 8;
