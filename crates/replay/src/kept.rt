@@ -7,7 +7,7 @@ use replay_filters::tables::Tables;
 use replay_filters::tables::set_chain;
 use replay_filters::tables::set_nodes;
 use replay_geometry::boxes::MOST_INTERVALS;
-use replay_geometry::calls::Call;
+use replay_geometry::names::Call;
 use replay_geometry::sweep::sweep;
 use replay_text::digest::Swept;
 use replay_text::words::Doubles;

@@ -11,6 +11,7 @@ use replay_filters::calls as filter_calls;
 use replay_filters::filters::filter_tables;
 use replay_filters::tables::Nodes;
 use replay_geometry::calls as geometry_calls;
+use replay_geometry::names as geometry_names;
 use replay_records::calls as record_calls;
 use replay_records::folds::fold_lists;
 use replay_text::digest::put_swept;
@@ -125,7 +126,7 @@ fn put_sweep(out: &mut Buffer, filled: usize, rest: &[u8], kept: Kept) -> usize 
     if of_records < record_calls::NO_CALL {
         return put_swept(out, filled, record_calls::sweep(of_records));
     }
-    let call = geometry_calls::call_named(name);
+    let call = geometry_names::call_named(name);
     if call.is_known() {
         return put_swept(out, filled, kept.swept(call));
     }
@@ -162,5 +163,5 @@ fn put_case(
     if of_records < record_calls::NO_CALL {
         return record_calls::put_call(out, filled, of_records, words);
     }
-    geometry_calls::put_call(out, filled, geometry_calls::call_named(first), words)
+    geometry_calls::put_call(out, filled, geometry_names::call_named(first), words)
 }

@@ -7,7 +7,7 @@ use replay_text::output::put;
 use replay_text::output::put_all;
 use replay_text::output::put_decimal;
 use sedona_expr::spatial_filter::Evaluation;
-use sedona_expr::spatial_filter::FilterBox;
+use sedona_geometry::bounding_box::NumberedBox;
 
 // Puts whether a filter may match, or the number that refuses it.
 pub fn put_evaluation(out: &mut Buffer, filled: usize, evaluation: Evaluation) -> usize {
@@ -22,7 +22,7 @@ pub fn put_evaluation(out: &mut Buffer, filled: usize, evaluation: Evaluation) -
 }
 
 // Puts a number and a box.
-pub fn put_filter_box(out: &mut Buffer, filled: usize, filter_box: FilterBox) -> usize {
+pub fn put_filter_box(out: &mut Buffer, filled: usize, filter_box: NumberedBox) -> usize {
     let bounds = filter_box.bounds;
     let at = put_decimal(out, filled, filter_box.number as u64);
     let at = put(out, at, b' ');
@@ -39,7 +39,7 @@ pub fn with_evaluation(digest: Digest, evaluation: Evaluation) -> Digest {
 }
 
 // A digest with the number and the box of a filter more.
-pub fn with_filter_box(digest: Digest, filter_box: FilterBox) -> Digest {
+pub fn with_filter_box(digest: Digest, filter_box: NumberedBox) -> Digest {
     let bounds = filter_box.bounds;
     with_box(digest.with_word(filter_box.number as u64), bounds)
 }

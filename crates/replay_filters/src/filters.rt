@@ -11,10 +11,10 @@ use replay_text::digest::Digest;
 use replay_text::digest::Swept;
 use replay_text::words::MOST_WORDS;
 use sedona_expr::spatial_filter::Evaluation;
-use sedona_expr::spatial_filter::FilterBox;
 use sedona_expr::spatial_filter::evaluate_by_name;
 use sedona_expr::spatial_filter::evaluate_by_position;
 use sedona_expr::spatial_filter::filter_bbox;
+use sedona_geometry::bounding_box::NumberedBox;
 
 // Whether the filter may match, by position or by name.
 pub fn evaluate(nodes: &Nodes, tables: Tables, is_by_name: bool) -> Evaluation {
@@ -43,7 +43,7 @@ pub fn evaluate(nodes: &Nodes, tables: Tables, is_by_name: bool) -> Evaluation {
 }
 
 // The filter box of the column of a name.
-pub fn bbox_of(nodes: &Nodes, tables: Tables, name: u32) -> FilterBox {
+pub fn bbox_of(nodes: &Nodes, tables: Tables, name: u32) -> NumberedBox {
     let literals = tables.literals;
     let flags = tables.literal_flags;
     filter_bbox(

@@ -7,7 +7,7 @@ use replay_text::output::put_decimal;
 use replay_text::write::put_double;
 use sedona_geometry::bounding_box::BoundingBox;
 use sedona_geometry::bounding_box::Dimension;
-use sedona_geometry::bounding_box::Intersected;
+use sedona_geometry::bounding_box::NumberedBox;
 use sedona_geometry::interval::Conversion;
 use sedona_geometry::interval::Intersection;
 use sedona_geometry::interval::Interval;
@@ -63,7 +63,7 @@ pub fn intersected(intersection: Intersection) -> Answer {
 }
 
 // A box, where the intersection is one.
-pub fn box_intersected(intersection: Intersected) -> Answer {
+pub fn box_intersected(intersection: NumberedBox) -> Answer {
     let bounds = intersection.bounds;
     if intersection.number == 0 {
         Answer::AcceptedBox(bounds)

@@ -5,4 +5,5 @@ pub mod calls;
 mod digits;
 pub mod draws;
 mod lent;
+pub mod names;
 pub mod sweep;

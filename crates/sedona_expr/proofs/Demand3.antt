@@ -6,10 +6,12 @@ use Prim.Native.Nat.{ℕ, _-_, _<_}
 use native.Mathlib.Omega.{arith}
 use lib.ListN.{length, getD}
 use Rattle.sedona_geometry.specs.BoundingBox as boundingBox
-use Rattle.sedona_geometry.specs.BoundingBox.{Doubles}
+use Rattle.sedona_geometry.specs.BoundingBox.{Doubles, numbered}
 use Rattle.sedona_geometry.specs.declared.bounding_box.BoundingBox.{BoundingBox}
 use Rattle.sedona_geometry.proofs.Boxes.{whole}
-use Rattle.sedona_expr.specs.SpatialFilter.{Boxes, boxAt, Table, count, root, Lookup, place, boxRefusal, outcome, bounded, filterBbox}
+use Rattle.sedona_expr.specs.Tables.{Boxes, boxAt, Table, count, root, Lookup, place}
+use Rattle.sedona_expr.specs.Refusals.{boxRefusal}
+use Rattle.sedona_expr.specs.Calls.{outcome, filterBbox}
 use Rattle.sedona_expr.specs.Demand.{Row, WhereBox, Holds, EachLeaf, Wanted, Each, isPoint, lowToHigh, Pointed, MayMatch, Reaches, Demand3}
 use Rattle.sedona_expr.specs.declared.statistics.Bbox as Bbox
 use Rattle.sedona_expr.specs.declared.statistics.Bbox.{Bbox}
@@ -17,7 +19,7 @@ use Rattle.sedona_expr.specs.declared.statistics.GeoStatistics.{GeoStati
 use Rattle.sedona_expr.proofs.Points.{point, ordered, each-map}
 use Rattle.sedona_expr.proofs.Leaves.{leaves-zip, leaves-of-table, literal-doubles}
 use Rattle.sedona_expr.proofs.MayMatch.{may-match}
-use Rattle.sedona_expr.proofs.Refusals.{box-not-refused}
+use Rattle.sedona_expr.proofs.Passing.{box-not-refused}
 use Rattle.sedona_expr.proofs.Reaches.{Literal, Literals, reaches}
 
 -- ---- the first half
@@ -38,11 +40,11 @@ module _ (l : Lookup) (t : Table) (r : Boxes) (row : Row) (names : List ℕ) (P 
       → EachLeaf (λ v c k. c .name ≡ getD names i 0 → row (place l c) ≡ Bbox.Known b) (root t)
   of-name E i b h e =
       leaves-zip (λ v c k. place l c < length (r .flags)) (λ v c k. c .name ≡ getD names (place l c) 0) (λ v c k. c .name ≡ getD names i 0 → row (place l c) ≡ Bbox.Known b)
-      (λ v c k x o n. rw (P .differ (place l c) i (omega (arith, P .count)) h (sym o ∙ n)) e) (root t) E (P .ownNames)
+      (λ v c k x o n. rw (P .differ (place l c) i (omega (arith, P .columns)) h (sym o ∙ n)) e) (root t) E (P .ownNames)
 
   -- It asks nothing of the records but how many there are.
   pub filter-box-reaches : boxRefusal t ≡ 0 → EachLeaf (λ v c k. place l c < length (r .flags)) (root t) → Holds (λ c. row (place l c)) (root t) → Reaches t row names
-  unfolding bounded
+  unfolding numbered
   filter-box-reaches w E H i h = go (row i) refl (P .doubles i h) (P .point i h)
     where
       n : ℕ

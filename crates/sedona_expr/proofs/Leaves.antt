@@ -10,7 +10,8 @@ use Rattle.sedona_geometry.specs.Interval as interval
 use Rattle.sedona_geometry.specs.BoundingBox.{Doubles, DoublesWhereKnown}
 use Rattle.sedona_geometry.specs.declared.bounding_box.BoundingBox.{BoundingBox}
 use Rattle.sedona_expr.specs.Statistics.{All}
-use Rattle.sedona_expr.specs.SpatialFilter.{Column, Filter, intersects, covers, and, or, literalFalse, unknown, Boxes, hasBox, intervalAt, boxWith, boxAt, orEmpty, Table, kind, word, isLeaf, isPair, areBelow, leafOf, pairOf, treeOf, treesBelow, treeAt, hasZ, hasM}
+use Rattle.sedona_expr.specs.SpatialFilter.{Column, Filter, intersects, covers, and, or, literalFalse, unknown}
+use Rattle.sedona_expr.specs.Tables.{Boxes, hasBox, intervalAt, boxWith, boxAt, orEmpty, Table, kind, word, isLeaf, isPair, areBelow, leafOf, pairOf, treeOf, treesBelow, treeAt, hasZ, hasM}
 use Rattle.sedona_expr.specs.Demand.{EachLeaf}
 use Rattle.sedona_expr.proofs.StraightBoxes.{empty-straight}
 

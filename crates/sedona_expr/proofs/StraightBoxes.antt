@@ -77,7 +77,7 @@ met-straight {a} {b} s t =
 -- an intersection of them is never refused
 meets : {a b : BoundingBox} → StraightBox a → StraightBox b → orFull (boundingBox.intersection a b) ≡ met a b
 unfolding orFull
-meets s t = rw (boxes.intersection-single (s .doubles) (t .doubles) (s .x) (t .x))
+meets s t = rw (boxes.intersection-accepted (s .doubles) (t .doubles) (s .x) (t .x))
 
 pub intersection-straight : {a b : BoundingBox} → StraightBox a → StraightBox b → StraightBox (orFull (boundingBox.intersection a b))
 intersection-straight s t = rw (meets s t) (met-straight s t)

@@ -1,12 +1,12 @@
 -- The hypotheses of demand 3 can be met, for each call and for each half: And of (Or of an Intersects of column 0 and a LiteralFalse) and of a
--- Covers of column 1, a row that is a point in both, and for column 0 three records, one of them without a box and one wrapped. Assumes nothing.
+-- Covers of column 1; a row that is a point in both, and in a third column, for which no record is lent; and for column 0 three records, one of
+-- them without a box and one wrapped. Assumes nothing.
 use mathlib.Core.Path.{_≡_, refl}
 use mathlib.Core.Logic.{inl, inr}
 use mathlib.Core.List.{List, [], _∷_}
 use Prim.Native.Nat.{ℕ, zero, suc, _<_}
 use native.Mathlib.Omega.{arith}
 use lib.IntN.{pos}
-use lib.ListN.{getD}
 use lib.Ieee.{Float, binary64, fits, add, sub, div, neg, lt, le, eq, isNan, round, ofInt}
 use Rattle.sedona_geometry.specs.Float.{minNum, maxNum, abs}
 use Rattle.sedona_geometry.specs.Interval as interval
@@ -14,13 +14,15 @@ use Rattle.sedona_geometry.specs.WraparoundInterval as wraparound
 use Rattle.sedona_geometry.specs.BoundingBox as boundingBox
 use Rattle.sedona_geometry.specs.declared.bounding_box.BoundingBox.{BoundingBox}
 use Rattle.sedona_expr.specs.Statistics as statistics
-use Rattle.sedona_expr.specs.SpatialFilter as filter
-use Rattle.sedona_expr.specs.SpatialFilter.{Boxes, Table, Lookup, byPosition, byName}
+use Rattle.sedona_expr.specs.Tables as tables
+use Rattle.sedona_expr.specs.Refusals as refusals
+use Rattle.sedona_expr.specs.Tables.{Boxes, Table, Lookup, byPosition, byName}
 use Rattle.sedona_expr.specs.Demand.{Row, WhereBox, Folds, Wanted, Each, isPoint, Numbers, Pointed, MayMatch, Reaches}
 use Rattle.sedona_expr.specs.declared.statistics.Bbox as Bbox
 use Rattle.sedona_expr.specs.declared.statistics.Bbox.{Bbox}
 use Rattle.sedona_expr.specs.declared.statistics.GeoStatistics.{GeoStatistics}
 use Rattle.sedona_expr.proofs.Instances.{reading}
+use Rattle.sedona_expr.proofs.Searches.{once-differ}
 use Rattle.sedona_expr.proofs.Demand3.{demand-3}
 
 abbrev plus : ℕ → Float
@@ -51,13 +53,18 @@ abbrev ends : Float → Float → Float → Float → List Float → List Float
 ends a b c d ds = a ∷ b ∷ c ∷ d ∷ plus 0 ∷ plus 0 ∷ plus 0 ∷ plus 0 ∷ ds
 
 abbrev t : Table
-t = filter.table nodes (ends (plus 0) (plus 10) (plus 0) (plus 10) (ends (plus 4) (plus 4) (plus 5) (plus 5) [])) (1 ∷ 1 ∷ [])
+t = tables.table nodes (ends (plus 0) (plus 10) (plus 0) (plus 10) (ends (plus 4) (plus 4) (plus 5) (plus 5) [])) (1 ∷ 1 ∷ [])
 
 abbrev r : Boxes
-r = filter.boxes (ends (plus 2) (neg (plus 170)) (plus 1) (plus 9) (ends (plus 3) (plus 6) (plus 5) (plus 8) [])) (1 ∷ 1 ∷ [])
+r = tables.boxes (ends (plus 2) (neg (plus 170)) (plus 1) (plus 9) (ends (plus 3) (plus 6) (plus 5) (plus 8) [])) (1 ∷ 1 ∷ [])
 
+-- By name.
+abbrev lent : List ℕ
+lent = 7 ∷ 9 ∷ []
+
+-- A third column has a number, and no record is lent for it.
 abbrev names : List ℕ
-names = 7 ∷ 9 ∷ []
+names = 7 ∷ 9 ∷ 4 ∷ []
 
 -- ---- the row and the lists
 
@@ -74,8 +81,8 @@ lists zero =
 lists (suc n) = reading (Bbox.Known (flat (plus 3) (plus 6) (plus 6) (plus 8))) (pos 4) ∷ reading (row 1) (pos 5) ∷ []
 
 -- ---- each column's list
-folds-0 : Folds (lists 0) (row 0) (filter.boxAt r 0)
-unfolding fits add sub div neg lt le eq isNan round ofInt minNum maxNum abs interval.intersectsInterval interval.isEmpty interval.mergeInterval wraparound.isWraparound wraparound.split wraparound.mid wraparound.fromPieces wraparound.mergeWrapped wraparound.nearerLeft wraparound.mergePlain wraparound.mergeNonEmpty wraparound.mergeInterval boundingBox.joinKnown boundingBox.mergeBox statistics.leaves statistics.sumLeaves statistics.totalsOverflow statistics.countsOverflow statistics.mergeBboxes statistics.mergeParts statistics.mergeValue statistics.addTotals statistics.step statistics.foldFrom filter.boxWith filter.boxAt
+folds-0 : Folds (lists 0) (row 0) (tables.boxAt r 0)
+unfolding fits add sub div neg lt le eq isNan round ofInt minNum maxNum abs interval.intersectsInterval interval.isEmpty interval.mergeInterval wraparound.isWraparound wraparound.split wraparound.mid wraparound.fromPieces wraparound.mergeWrapped wraparound.nearerLeft wraparound.mergePlain wraparound.mergeNonEmpty wraparound.mergeInterval boundingBox.joinKnown boundingBox.mergeBox statistics.leaves statistics.sumLeaves statistics.totalsOverflow statistics.countsOverflow statistics.mergeBboxes statistics.mergeParts statistics.mergeValue statistics.addTotals statistics.step statistics.foldFrom tables.boxWith tables.boxAt
 folds-0 = record {
   doubles = (
     record { x = record { lo = tt; hi = tt }; y = record { lo = tt; hi = tt }; z = tt; m = tt },
@@ -87,8 +94,8 @@ folds-0 = record {
   folded = refl;
 }
 
-folds-1 : Folds (lists 1) (row 1) (filter.boxAt r 1)
-unfolding fits add sub div neg lt le eq isNan round ofInt minNum maxNum abs interval.intersectsInterval interval.isEmpty interval.mergeInterval wraparound.isWraparound wraparound.split wraparound.mid wraparound.fromPieces wraparound.mergeWrapped wraparound.nearerLeft wraparound.mergePlain wraparound.mergeNonEmpty wraparound.mergeInterval boundingBox.joinKnown boundingBox.mergeBox statistics.leaves statistics.sumLeaves statistics.totalsOverflow statistics.countsOverflow statistics.mergeBboxes statistics.mergeParts statistics.mergeValue statistics.addTotals statistics.step statistics.foldFrom filter.boxWith filter.boxAt
+folds-1 : Folds (lists 1) (row 1) (tables.boxAt r 1)
+unfolding fits add sub div neg lt le eq isNan round ofInt minNum maxNum abs interval.intersectsInterval interval.isEmpty interval.mergeInterval wraparound.isWraparound wraparound.split wraparound.mid wraparound.fromPieces wraparound.mergeWrapped wraparound.nearerLeft wraparound.mergePlain wraparound.mergeNonEmpty wraparound.mergeInterval boundingBox.joinKnown boundingBox.mergeBox statistics.leaves statistics.sumLeaves statistics.totalsOverflow statistics.countsOverflow statistics.mergeBboxes statistics.mergeParts statistics.mergeValue statistics.addTotals statistics.step statistics.foldFrom tables.boxWith tables.boxAt
 folds-1 = record {
   doubles = (
     record { x = record { lo = tt; hi = tt }; y = record { lo = tt; hi = tt }; z = tt; m = tt },
@@ -111,19 +118,10 @@ unfolding eq isNan round ofInt
 row-point zero = record { x = (refl, refl); y = (refl, refl); z = tt; m = tt }
 row-point (suc i) = record { x = (refl, refl); y = (refl, refl); z = tt; m = tt }
 
-two-differ : (i j : ℕ) → i < 2 → j < 2 → getD names i 0 ≡ getD names j 0 → i ≡ j
-two-differ zero zero h k e = refl
-two-differ zero (suc zero) h k e = absurd (omega arith)
-two-differ zero (suc (suc j)) h k e = absurd (omega arith)
-two-differ (suc zero) zero h k e = absurd (omega arith)
-two-differ (suc zero) (suc zero) h k e = refl
-two-differ (suc zero) (suc (suc j)) h k e = absurd (omega arith)
-two-differ (suc (suc i)) j h k e = absurd (omega arith)
-
 -- ---- the hypotheses, for any call that finds the two columns
-module _ (l : Lookup) (wellFormed : filter.refusal l t r ≡ 0) (first : filter.place l (filter.column 0 7) ≡ 0) (second : filter.place l (filter.column 1 9) ≡ 1) where
+module _ (l : Lookup) (wellFormed : refusals.refusal l t r ≡ 0) (first : tables.place l (tables.column 0 7) ≡ 0) (second : tables.place l (tables.column 1 9) ≡ 1) where
   wanted : Wanted l t r row lists
-  unfolding fits sub neg lt le eq isNan round ofInt interval.intersectsValue interval.containsInterval interval.isEmpty wraparound.isWraparound wraparound.split wraparound.intersectsValue wraparound.containsInterval boundingBox.testKnown boundingBox.contains filter.boxWith filter.boxAt filter.orEmpty filter.leafOf filter.pairOf filter.areBelow filter.treeOf filter.treeAt
+  unfolding fits sub neg lt le eq isNan round ofInt interval.intersectsValue interval.containsInterval interval.isEmpty wraparound.isWraparound wraparound.split wraparound.intersectsValue wraparound.containsInterval boundingBox.testKnown boundingBox.contains tables.boxWith tables.boxAt tables.orEmpty tables.leafOf tables.pairOf tables.areBelow tables.treeOf tables.treeAt
   wanted = record {
     wellFormed = wellFormed;
     exist = rw (first, second) ((omega arith, tt), omega arith);
@@ -141,15 +139,15 @@ module _ (l : Lookup) (wellFormed : filter.refusal l t r ≡ 0) (first : filter.
   }
 
   pointed : Numbers l names → Pointed l t r row names
-  unfolding fits neg lt le eq isNan round ofInt filter.boxWith filter.boxAt filter.orEmpty filter.leafOf filter.pairOf filter.areBelow filter.treeOf filter.treeAt
+  unfolding tables.placeOf refusals.hasTwice fits neg lt le eq isNan round ofInt tables.boxWith tables.boxAt tables.orEmpty tables.leafOf tables.pairOf tables.areBelow tables.treeOf tables.treeAt
   pointed numbers = record {
     numbers = numbers;
-    count = refl;
+    columns = omega arith;
     literals = (tt, (tt, (tt, (tt, (tt, (tt, (tt, (tt, (tt, (tt, (tt, (tt, (tt, (tt, (tt, (tt, tt))))))))))))))));
     doubles = λ i h. row-doubles i;
     point = λ i h. row-point i;
     ownNames = rw (first, second) ((refl, tt), refl);
-    differ = two-differ;
+    differ = once-differ names refl;
     lowToHigh = (
       (record { x = refl; y = refl; z = tt; m = tt }, tt),
       record { x = refl; y = refl; z = tt; m = tt },
@@ -161,9 +159,14 @@ module _ (l : Lookup) (wellFormed : filter.refusal l t r ≡ 0) (first : filter.
 
 -- ---- each call
 pub by-position : MayMatch byPosition t r × Reaches t row names
-unfolding filter.orElse filter.wordsRefusal filter.goodFlag filter.boxesRefusal filter.namesRefusal filter.twiceRefusal filter.recordsRefusal filter.areBelow filter.pairRefusal filter.isLent filter.leafRefusal filter.nodeRefusal filter.usesBy filter.usesRefusal filter.treeRefusal filter.refusal filter.place
+unfolding refusals.orElse refusals.wordsRefusal refusals.goodFlag refusals.boxesRefusal refusals.namesRefusal refusals.twiceRefusal refusals.recordsRefusal tables.areBelow refusals.pairRefusal refusals.isLent refusals.leafRefusal refusals.nodeRefusal refusals.usesBy refusals.usesRefusal refusals.treeRefusal refusals.refusal tables.place
 by-position = both-halves byPosition refl refl refl tt
 
-pub by-name : MayMatch (byName names) t r × Reaches t row names
-unfolding filter.orElse filter.wordsRefusal filter.goodFlag filter.boxesRefusal filter.placeOf filter.hasTwice filter.namesRefusal filter.twiceRefusal filter.recordsRefusal filter.areBelow filter.pairRefusal filter.isLent filter.leafRefusal filter.nodeRefusal filter.usesBy filter.usesRefusal filter.treeRefusal filter.refusal filter.place
-by-name = both-halves (byName names) refl refl refl refl
+lent-numbers : Numbers (byName lent) names
+lent-numbers zero h = refl
+lent-numbers (suc zero) h = refl
+lent-numbers (suc (suc i)) h = absurd (omega arith)
+
+pub by-name : MayMatch (byName lent) t r × Reaches t row names
+unfolding refusals.orElse refusals.wordsRefusal refusals.goodFlag refusals.boxesRefusal tables.placeOf refusals.hasTwice refusals.namesRefusal refusals.twiceRefusal refusals.recordsRefusal tables.areBelow refusals.pairRefusal refusals.isLent refusals.leafRefusal refusals.nodeRefusal refusals.usesBy refusals.usesRefusal refusals.treeRefusal refusals.refusal tables.place
+by-name = both-halves (byName lent) refl refl refl lent-numbers

@@ -1,10 +1,11 @@
 -- The words of demand 3 (01, "Words of demand 3"), over the definitions that the contracts of the calls cite.
--- A column is a place among the lent records. A leaf's column is the place where its call looks: `place`.
+-- A column is a place: those for which a record is lent come first, in the order of the records. A leaf's column is the place where its call
+-- looks: `place`.
 use mathlib.Core.Logic.{_⊎_}
 use mathlib.Core.Path.{_≡_}
 use mathlib.Core.Bool.{Bool, true, false}
 use mathlib.Core.List.{List, [], _∷_}
-use Prim.Native.Nat.{ℕ, _<_}
+use Prim.Native.Nat.{ℕ, _≤_, _<_}
 use lib.Dec.{T}
 use lib.ListN.{length, getD}
 use lib.Ieee.{Float, binary64, fits, le, eq}
@@ -17,7 +18,10 @@ use Rattle.sedona_geometry.specs.declared.bounding_box.Dimension as Dimension
 use Rattle.sedona_geometry.specs.declared.bounding_box.BoundingBox.{BoundingBox}
 use Rattle.sedona_expr.specs.Statistics.{All, fold}
 use Rattle.sedona_expr.specs.Statistics as statistics
-use Rattle.sedona_expr.specs.SpatialFilter.{Column, Filter, intersects, covers, and, or, literalFalse, unknown, Boxes, boxAt, Table, root, Lookup, byPosition, byName, place, refusal, evaluate, filterBbox}
+use Rattle.sedona_expr.specs.SpatialFilter.{Column, Filter, intersects, covers, and, or, literalFalse, unknown}
+use Rattle.sedona_expr.specs.Tables.{Boxes, boxAt, Table, root, Lookup, byPosition, byName, place}
+use Rattle.sedona_expr.specs.Refusals.{refusal}
+use Rattle.sedona_expr.specs.Calls.{evaluate, filterBbox}
 use Rattle.sedona_expr.specs.declared.statistics.Bbox as Bbox
 use Rattle.sedona_expr.specs.declared.statistics.Bbox.{Bbox}
 use Rattle.sedona_expr.specs.declared.statistics.GeoStatistics.{GeoStatistics}
@@ -118,15 +122,16 @@ pub record Each (P : Interval → Type 0) (b : BoundingBox) : Type 0 where
 abbrev pub isPoint : Interval → Type 0
 isPoint i = (eq (i .lo) (i .hi) ≡ true) × (interval.hasNan i ≡ false)
 
--- "Every column has a name number": by name, it is the lent one.
+-- "Every column has a name number": by name, that of a lent record is the lent one.
 abbrev pub Numbers : Lookup → List ℕ → Type 0
 Numbers byPosition names = Unit {0}
-Numbers (byName ns) names = names ≡ ns
+Numbers (byName ns) names = (i : ℕ) → i < length ns → getD names i 0 ≡ getD ns i 0
 
 -- Of the second half.
 pub record Pointed (l : Lookup) (t : Table) (r : Boxes) (row : Row) (names : List ℕ) : Type 0 where
   pub numbers : Numbers l names
-  pub count : length names ≡ length (r .flags)
+  -- every column is among them: those for which a record is lent, and others
+  pub columns : length (r .flags) ≤ length names
   -- the ends are doubles
   pub literals : All (λ d. T (fits binary64 d)) (t .literals .doubles)
   pub doubles : (i : ℕ) → i < length names → WhereBox boundingBox.Doubles (row i)

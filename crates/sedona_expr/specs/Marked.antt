@@ -10,7 +10,8 @@ use Rattle.sedona_geometry.specs.WraparoundInterval as wraparound
 use Rattle.sedona_geometry.specs.declared.interval.Interval.{Interval}
 use Rattle.sedona_geometry.specs.declared.interval.WraparoundInterval.{WraparoundInterval}
 use Rattle.sedona_geometry.specs.declared.interval.Intersection.{Intersection}
-use Rattle.sedona_expr.specs.SpatialFilter.{Boxes, Table, boxes, table, byPosition, evaluate, filterBbox}
+use Rattle.sedona_expr.specs.Tables.{Boxes, Table, boxes, table, byPosition}
+use Rattle.sedona_expr.specs.Calls.{evaluate, filterBbox}
 use Rattle.sedona_expr.specs.declared.spatial_filter.Evaluation as Evaluation
 use Rattle.sedona_expr.specs.declared.spatial_filter.Evaluation.{Evaluation}
 

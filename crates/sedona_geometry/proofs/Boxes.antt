@@ -6,7 +6,7 @@ use mathlib.Core.Bool.{Bool, true, _&&_}
 use lib.Ieee.Fits.{and-l, and-r}
 use Rattle.sedona_geometry.specs.Interval as interval
 use Rattle.sedona_geometry.specs.WraparoundInterval as wraparound
-use Rattle.sedona_geometry.specs.BoundingBox.{testKnown, joinKnown, dimensionsIntersect, dimensionsContain, mergeDimensions, intersectDimensions, intersects, contains, mergeBox, withX, intersection, single, xyzm, WhereKnown, DoublesWhereKnown, Doubles, AcceptsAllOfKnown, NoLess, Common}
+use Rattle.sedona_geometry.specs.BoundingBox.{testKnown, joinKnown, dimensionsIntersect, dimensionsContain, mergeDimensions, intersectDimensions, intersects, contains, mergeBox, withX, intersection, accepted, xyzm, WhereKnown, DoublesWhereKnown, Doubles, AcceptsAllOfKnown, NoLess, Common}
 use Rattle.sedona_geometry.specs.declared.bounding_box.Dimension.{Dimension}
 use Rattle.sedona_geometry.specs.declared.bounding_box.Dimension.the-variants.{Missing, Known}
 use Rattle.sedona_geometry.specs.declared.bounding_box.BoundingBox.{BoundingBox}
@@ -173,9 +173,9 @@ abbrev pub met : BoundingBox → BoundingBox → BoundingBox
 met a b =
     xyzm (wraparound.fromInterval (interval.intersection (a .x .inner) (b .x .inner))) (interval.intersection (a .y) (b .y)) (intersectDimensions (a .z) (b .z)) (intersectDimensions (a .m) (b .m))
 
-pub intersection-single : {a b : BoundingBox} → Doubles a → Doubles b → Straight (a .x) → Straight (b .x) → intersection a b ≡ single (met a b)
+pub intersection-accepted : {a b : BoundingBox} → Doubles a → Doubles b → Straight (a .x) → Straight (b .x) → intersection a b ≡ accepted (met a b)
 unfolding intersection withX
-intersection-single {a} {b} D E s t = rw (containing.intersection-plain (a .x) (b .x) (containing.straight-plain (D .x) s) (containing.straight-plain (E .x) t))
+intersection-accepted {a} {b} D E s t = rw (containing.intersection-plain (a .x) (b .x) (containing.straight-plain (D .x) s) (containing.straight-plain (E .x) t))
 
 pub intersection-contains : {a b k : BoundingBox} → Doubles a → Doubles b → Straight (a .x) → Straight (b .x) → LowToHigh k → Parts a k → Parts b k → Parts (met a b) k
 intersection-contains {a} {b} {k} D E s t l p q = record {

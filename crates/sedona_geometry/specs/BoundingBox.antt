@@ -1,6 +1,7 @@
 -- `BoundingBox` of bounding_box.rs, method by method. z and m go through one definition a call.
-use mathlib.Core.Bool.{Bool, true, _&&_, _||_}
+use mathlib.Core.Bool.{Bool, true, _&&_, _||_, cond}
 use Prim.Native.Nat.{ℕ}
+use lib.Dec.{eqb}
 use lib.Ieee.{Float}
 use Rattle.sedona_geometry.specs.Interval as interval
 use Rattle.sedona_geometry.specs.WraparoundInterval as wraparound
@@ -11,7 +12,7 @@ use Rattle.sedona_geometry.specs.declared.interval.Intersection.the-vari
 use Rattle.sedona_geometry.specs.declared.bounding_box.Dimension.{Dimension}
 use Rattle.sedona_geometry.specs.declared.bounding_box.Dimension.the-variants.{Missing, Known}
 use Rattle.sedona_geometry.specs.declared.bounding_box.BoundingBox.{BoundingBox}
-use Rattle.sedona_geometry.specs.declared.bounding_box.Intersected.{Intersected}
+use Rattle.sedona_geometry.specs.declared.bounding_box.NumberedBox.{NumberedBox}
 
 -- A test of two intervals, where both are known; true where one is missing.
 unfoldable pub testKnown : (Interval → Interval → Bool) → Dimension → Dimension → Bool
@@ -76,18 +77,22 @@ abbrev pub updateBox : BoundingBox → BoundingBox → BoundingBox
 updateBox a b = mergeBox a b
 
 -- A number alone: the box beside it is empty.
-abbrev pub refused : ℕ → Intersected
+abbrev pub refused : ℕ → NumberedBox
 refused n = record { number = n; bounds = empty }
 
-abbrev pub single : BoundingBox → Intersected
-single a = record { number = 0; bounds = a }
+abbrev pub accepted : BoundingBox → NumberedBox
+accepted a = record { number = 0; bounds = a }
+
+-- The box where the number is 0, and else the number alone.
+unfoldable pub numbered : ℕ → BoundingBox → NumberedBox
+numbered n a = cond (eqb n 0) (accepted a) (refused n)
 
 -- The box of an x's intersection: a refusal of x is the box's.
-unfoldable pub withX : Intersection → Interval → Dimension → Dimension → Intersected
+unfoldable pub withX : Intersection → Interval → Dimension → Dimension → NumberedBox
 withX (Refused n) y z m = refused n
-withX (Single x) y z m = single (xyzm x y z m)
+withX (Single x) y z m = accepted (xyzm x y z m)
 
-unfoldable pub intersection : BoundingBox → BoundingBox → Intersected
+unfoldable pub intersection : BoundingBox → BoundingBox → NumberedBox
 intersection a b =
     withX (wraparound.intersection (a .x) (b .x)) (interval.intersection (a .y) (b .y)) (intersectDimensions (a .z) (b .z)) (intersectDimensions (a .m) (b .m))
 

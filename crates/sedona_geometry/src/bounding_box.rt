@@ -73,10 +73,29 @@ pub struct BoundingBox {
     pub m: Dimension,
 }
 
-// A box and 0, or an empty box and the number that refuses it.
-pub struct Intersected {
+// A box with its number: 0, or the number that refuses it, with an empty box beside it.
+pub struct NumberedBox {
     pub number: u32,
     pub bounds: BoundingBox,
+}
+
+impl NumberedBox {
+    // The number alone.
+    pub fn refused(number: u32) -> NumberedBox
+        ensures { λ r. ⌜ r ≡ boundingBox.refused number ⌝ }
+    {
+        NumberedBox {
+            number,
+            bounds: BoundingBox::empty(),
+        }
+    }
+
+    // A box that nothing refuses.
+    pub fn accepted(bounds: BoundingBox) -> NumberedBox
+        ensures { λ r. ⌜ r ≡ boundingBox.accepted bounds ⌝ }
+    {
+        NumberedBox { number: 0, bounds }
+    }
 }
 
 impl BoundingBox {
@@ -167,7 +186,7 @@ impl BoundingBox {
     }
 
     // What both hold; refused with 1 where that of x has two parts.
-    pub fn intersection(self, other: BoundingBox) -> Intersected
+    pub fn intersection(self, other: BoundingBox) -> NumberedBox
         ensures { λ r. ⌜ r ≡ boundingBox.intersection self other ⌝ }
     {
         let z = self.z;
@@ -175,19 +194,13 @@ impl BoundingBox {
         let other_z = other.z;
         let other_m = other.m;
         match self.x.intersection(other.x) {
-            Intersection::Refused(number) => Intersected {
-                number,
-                bounds: BoundingBox::empty(),
-            },
-            Intersection::Single(x) => Intersected {
-                number: 0,
-                bounds: BoundingBox::xyzm(
-                    x,
-                    self.y.intersection(other.y),
-                    z.intersection(other_z),
-                    m.intersection(other_m),
-                ),
-            },
+            Intersection::Refused(number) => NumberedBox::refused(number),
+            Intersection::Single(x) => NumberedBox::accepted(BoundingBox::xyzm(
+                x,
+                self.y.intersection(other.y),
+                z.intersection(other_z),
+                m.intersection(other_m),
+            )),
         }
     }
 }

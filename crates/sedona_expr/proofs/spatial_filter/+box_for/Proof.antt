@@ -4,8 +4,9 @@ use mathlib.Core.Bool.{cond}
 use lib.Dec.{eqb}
 use borrow.Author.Tests.{eq-eqb, ne-eqb}
 use Rattle.sedona_geometry.specs.BoundingBox.{intersection, mergeBox}
-use Rattle.sedona_expr.specs.SpatialFilter.{Filter, literalFalse, unknown, Table, table, literal, treeAt, boxFor, orFull, full, pairOf}
-use Rattle.sedona_expr.proofs.Tables.{says-leaf, says-pair, says-broken, says-other, broken-left, broken-right, leaf-same, pair-and, pair-or}
+use Rattle.sedona_expr.specs.SpatialFilter.{Filter, literalFalse, unknown, boxFor, orFull, full}
+use Rattle.sedona_expr.specs.Tables.{Table, table, literal, treeAt, pairOf}
+use Rattle.sedona_expr.proofs.Trees.{says-leaf, says-pair, says-broken, says-other, broken-left, broken-right, leaf-same, pair-and, pair-or}
 use Prim.Native.Nat.{ℕ, _<_}
 use borrow.Fn.Kinds.{In}
 use borrow.Fn.PlainCycle.{Measures, is, falls, and}
@@ -14,10 +15,10 @@ use Rattle.sedona_expr.proofs.spatial_filter.box_for.Kinds as kinds
 use Rattle.sedona_expr.proofs.spatial_filter.+box_for.Lts-box_for as lts
 use Rattle.sedona_expr.proofs.spatial_filter.full.Reads as full-reads
 use Rattle.sedona_expr.proofs.spatial_filter.intersection_or_full.Reads as intersection-or-full-reads
-use Rattle.sedona_expr.proofs.spatial_filter.is_leaf.Reads as is-leaf-reads
-use Rattle.sedona_expr.proofs.spatial_filter.is_pair.Reads as is-pair-reads
-use Rattle.sedona_expr.proofs.spatial_filter.literal_of.Reads as literal-of-reads
-use Rattle.sedona_expr.proofs.spatial_filter.word.Reads as word-reads
+use Rattle.sedona_expr.proofs.tables.is_leaf.Reads as is-leaf-reads
+use Rattle.sedona_expr.proofs.tables.is_pair.Reads as is-pair-reads
+use Rattle.sedona_expr.proofs.tables.literal_of.Reads as literal-of-reads
+use Rattle.sedona_expr.proofs.tables.word.Reads as word-reads
 use Rattle.sedona_geometry.proofs.bounding_box.BoundingBox.empty.Reads as empty-reads
 use Rattle.sedona_geometry.proofs.bounding_box.BoundingBox.merge_box.Reads as merge-box-reads
 use Rattle.sedona_expr.proofs.spatial_filter.+box_for.{statement}

@@ -1,8 +1,9 @@
 -- The proof of the cycle of calls {may_match}: the node number falls. Assumes nothing.
 use mathlib.Core.Path.{refl, sym, subst, _∙_}
 use lib.Dec.{eqb}
-use Rattle.sedona_expr.specs.SpatialFilter.{table, boxes, lookup, recordOf, answer}
-use Rattle.sedona_expr.proofs.Tables.{says-leaf, says-pair, says-broken, says-other, broken-left, broken-right, answer-other}
+use Rattle.sedona_expr.specs.SpatialFilter.{answer}
+use Rattle.sedona_expr.specs.Tables.{table, boxes, lookup, recordOf}
+use Rattle.sedona_expr.proofs.Trees.{says-leaf, says-pair, says-broken, says-other, broken-left, broken-right, answer-other}
 use Prim.Native.Nat.{ℕ, _<_}
 use borrow.Fn.Kinds.{In}
 use borrow.Fn.PlainCycle.{Measures, is, falls, and}
@@ -10,12 +11,12 @@ use Rattle.sedona_expr.proofs.spatial_filter.may_match.Reads as reads
 use Rattle.sedona_expr.proofs.spatial_filter.may_match.Kinds as kinds
 use Rattle.sedona_expr.proofs.spatial_filter.+may_match.Lts-may_match as lts
 use Rattle.sedona_expr.proofs.spatial_filter.both_or_either.Reads as both-or-either-reads
-use Rattle.sedona_expr.proofs.spatial_filter.is_leaf.Reads as is-leaf-reads
-use Rattle.sedona_expr.proofs.spatial_filter.is_pair.Reads as is-pair-reads
+use Rattle.sedona_expr.proofs.tables.is_leaf.Reads as is-leaf-reads
+use Rattle.sedona_expr.proofs.tables.is_pair.Reads as is-pair-reads
 use Rattle.sedona_expr.proofs.spatial_filter.leaf_may_match.Reads as leaf-may-match-reads
-use Rattle.sedona_expr.proofs.spatial_filter.literal_of.Reads as literal-of-reads
-use Rattle.sedona_expr.proofs.spatial_filter.record_of.Reads as record-of-reads
-use Rattle.sedona_expr.proofs.spatial_filter.word.Reads as word-reads
+use Rattle.sedona_expr.proofs.tables.literal_of.Reads as literal-of-reads
+use Rattle.sedona_expr.proofs.tables.record_of.Reads as record-of-reads
+use Rattle.sedona_expr.proofs.tables.word.Reads as word-reads
 use Rattle.sedona_expr.proofs.spatial_filter.+may_match.{statement}
 use Rattle.sedona_expr.proofs.spatial_filter.+may_match.Tie.{close}
 

@@ -1,6 +1,6 @@
 -- `spatial_filter::both_or_either` meets its contract. Assumes nothing.
 use borrow.Author.Tests.{eq-eqb, ne-eqb}
-use Rattle.sedona_expr.specs.SpatialFilter.{pairOf}
+use Rattle.sedona_expr.specs.Tables.{pairOf}
 use Rattle.sedona_expr.proofs.spatial_filter.both_or_either.Statement.{statement}
 use Rattle.sedona_expr.proofs.spatial_filter.both_or_either.Tie as tie
 

@@ -1,6 +1,6 @@
 -- `spatial_filter::leaf_may_match` meets its contract. Assumes nothing.
 use borrow.Author.Tests.{eq-eqb, ne-eqb}
-use Rattle.sedona_expr.specs.SpatialFilter.{leafOf}
+use Rattle.sedona_expr.specs.Tables.{leafOf}
 use Rattle.sedona_expr.proofs.spatial_filter.leaf_may_match.Statement.{statement}
 use Rattle.sedona_expr.proofs.spatial_filter.leaf_may_match.Tie as tie
 

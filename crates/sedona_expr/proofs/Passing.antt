@@ -1,0 +1,103 @@
+-- What the refusals let pass: as many words as make 1 node to 1,024, eight doubles a flag; and `filter_bbox` refuses no table that a filter call takes.
+-- Assumes nothing.
+use mathlib.Core.Path.{_≡_, refl, sym, _∙_}
+use mathlib.Core.Bool.{Bool, true, false, not, _||_, cond}
+use mathlib.Core.List.{List}
+use Prim.Native.Nat.{ℕ, zero, suc, _*_, _/_, _%_, _≤_}
+use native.Mathlib.Omega.{arith}
+use lib.Dec.{eqb, ltb}
+use lib.ListN.{length}
+use borrow.Author.Tests.{eqb-true, eqb-false, eq-eqb, ne-eqb, ltb-false}
+use Rattle.sedona_expr.specs.Error as error
+use Rattle.sedona_expr.specs.Tables.{Boxes, Table, Lookup, lookup, kind, word, count, isPair, isLeaf}
+use Rattle.sedona_expr.specs.Refusals.{orElse, when, wordsRefusal, boxesRefusal, asksIndex, isLent, leafRefusal, nodeRefusal, nodesRefusal, usesRefusal, treeRefusal, recordsRefusal, refusal, boxRefusal}
+
+-- ---- eight doubles a flag, by quotient and remainder
+pub not-in-eights : (d f : ℕ) → (d % 8 ≡ 0 → ⊥) → eqb d (8 * f) ≡ false
+not-in-eights d f h = ne-eqb d (8 * f) (λ e. h (omega arith))
+
+pub not-so-many : (d f : ℕ) → (d / 8 ≡ f → ⊥) → eqb d (8 * f) ≡ false
+not-so-many d f h = ne-eqb d (8 * f) (λ e. h (omega arith))
+
+pub eights : (d f : ℕ) → d % 8 ≡ 0 → d / 8 ≡ f → eqb d (8 * f) ≡ true
+eights d f h k = eq-eqb d (8 * f) (omega arith)
+
+-- ---- refusals
+pub or-else-zero : (m n : ℕ) → orElse m n ≡ 0 → (m ≡ 0) × (n ≡ 0)
+unfolding orElse
+or-else-zero m n = go (eqb m 0) refl
+  where
+    go : (b : Bool) → eqb m 0 ≡ b → cond b n m ≡ 0 → (m ≡ 0) × (n ≡ 0)
+    go true e z = (eqb-true m 0 e, z)
+    go false e z = absurd (eqb-false m 0 e z)
+
+-- an index is asked for where names are not
+pub asked : (b : Bool) (ns : List ℕ) → not b ≡ asksIndex (lookup b ns)
+asked true ns = refl
+asked false ns = refl
+
+-- as many words as pass make 1 node to 1,024
+pub words-pass : (ns : List ℕ) → wordsRefusal ns ≡ 0 → (1 ≤ count ns) × (length ns ≤ 4096)
+unfolding wordsRefusal
+words-pass ns = go (eqb (length ns) 0) (eqb (length ns % 4) 0) (ltb 4096 (length ns)) refl refl refl
+  where
+    go : (a b c : Bool) → eqb (length ns) 0 ≡ a → eqb (length ns % 4) 0 ≡ b → ltb 4096 (length ns) ≡ c → when (a || not b || c) error.words ≡ 0
+        → (1 ≤ count ns) × (length ns ≤ 4096)
+    go true b c e f g z = absurd (omega arith)
+    go false false c e f g z = absurd (omega arith)
+    go false true true e f g z = absurd (omega arith)
+    go false true false e f g z =
+        let d : (length ns ≡ 0 → ⊥) = eqb-false (length ns) 0 e in
+        (omega (arith, eqb-true (length ns % 4) 0 f), ltb-false 4096 (length ns) g)
+
+pub refusal-pass : (l : Lookup) (t : Table) (r : Boxes) (n : ℕ) → n ≡ refusal l t r → n ≡ 0 → (1 ≤ count (t .nodes)) × (length (t .nodes) ≤ 4096)
+unfolding refusal
+refusal-pass l t r n is e = words-pass (t .nodes) (or-else-zero (wordsRefusal (t .nodes)) _ (sym is ∙ e) .0)
+
+pub box-refusal-pass : (t : Table) (n : ℕ) → n ≡ boxRefusal t → n ≡ 0 → (1 ≤ count (t .nodes)) × (length (t .nodes) ≤ 4096)
+unfolding boxRefusal
+box-refusal-pass t n is e = words-pass (t .nodes) (or-else-zero (wordsRefusal (t .nodes)) _ (sym is ∙ e) .0)
+
+-- ---- which numbers are 0
+or-else-none : {m n : ℕ} → m ≡ 0 → n ≡ 0 → orElse m n ≡ 0
+unfolding orElse
+or-else-none p q = rw (p, q)
+
+cond-none : (b : Bool) {m n o p : ℕ} → (m ≡ 0 → o ≡ 0) → (n ≡ 0 → p ≡ 0) → cond b m n ≡ 0 → cond b o p ≡ 0
+cond-none true f g h = f h
+cond-none false f g h = g h
+
+-- ---- node by node, where no index is asked for
+module _ (ns : List ℕ) (literals : ℕ) (lent : ℕ → Bool) where
+  leaf-none : (n : ℕ) → leafRefusal ns literals lent n ≡ 0 → leafRefusal ns literals (isLent false 0) n ≡ 0
+  unfolding leafRefusal isLent
+  leaf-none n = cond-none (ltb (word ns n 3) literals) (λ h. refl) (λ h. h)
+
+  node-none : (n : ℕ) → nodeRefusal ns literals lent n ≡ 0 → nodeRefusal ns literals (isLent false 0) n ≡ 0
+  unfolding nodeRefusal
+  node-none n =
+      cond-none (ltb 6 (kind ns n)) (λ h. h)
+      (cond-none (eqb (kind ns n) 2) (λ h. h) (cond-none (isPair (kind ns n)) (λ h. h) (cond-none (isLeaf (kind ns n)) (leaf-none n) (λ h. h))))
+
+  nodes-none : (n : ℕ) → nodesRefusal ns literals lent n ≡ 0 → nodesRefusal ns literals (isLent false 0) n ≡ 0
+  nodes-none zero h = refl
+  nodes-none (suc n) h =
+      let b = or-else-zero (nodesRefusal ns literals lent n) (nodeRefusal ns literals lent n) h in
+      or-else-none (nodes-none n (b .0)) (node-none n (b .1))
+
+  tree-none : treeRefusal ns literals lent ≡ 0 → treeRefusal ns literals (isLent false 0) ≡ 0
+  unfolding treeRefusal
+  tree-none h =
+      let b = or-else-zero (nodesRefusal ns literals lent (count ns)) (usesRefusal ns) h in
+      or-else-none (nodes-none (count ns) (b .0)) (b .1)
+
+-- ---- the whole table
+pub box-not-refused : (l : Lookup) (t : Table) (r : Boxes) → refusal l t r ≡ 0 → boxRefusal t ≡ 0
+unfolding refusal boxRefusal
+box-not-refused l t r h =
+    let lent = isLent (asksIndex l) (length (r .flags)) in
+    let tree = treeRefusal (t .nodes) (length (t .literals .flags)) lent in
+    let a = or-else-zero (wordsRefusal (t .nodes)) (orElse (boxesRefusal false (t .literals)) (orElse (recordsRefusal l r) tree)) h in
+    let b = or-else-zero (boxesRefusal false (t .literals)) (orElse (recordsRefusal l r) tree) (a .1) in
+    let c = or-else-zero (recordsRefusal l r) tree (b .1) in
+    or-else-none (a .0) (or-else-none (b .0) (tree-none (t .nodes) (length (t .literals .flags)) lent (c .1)))

@@ -1,0 +1,43 @@
+-- `refusals::mark_children` meets its contract. Assumes nothing.
+use mathlib.Core.Bool.{true, false}
+use native.Mathlib.Omega.{arith}
+use Rattle.sedona_expr.proofs.Marks.{marks-rise, pair-counts, none-counts, pair-test}
+use Rattle.sedona_expr.proofs.refusals.mark_children.Statement.{statement}
+use Rattle.sedona_expr.proofs.refusals.mark_children.Tie as tie
+
+mark-requires : tie.Need-mark-requires
+mark-requires c κs =
+    let pre = c .before .before .before .before .before .before .before .pre in
+    (pre .0, λ m h. omega (arith, pre .1 m h))
+
+mark-requires-2 : tie.Need-mark-requires-2
+mark-requires-2 c κs =
+    let args = c .before .before .before .before .before .before .before .before .before .args in
+    let pre = c .before .before .before .before .before .before .before .before .before .pre in
+    let word2 = c .before .before .before .before .word2 in
+    let mark = c .before .mark in
+    marks-rise (args .marks .now) (mark .last .0) (word2 .result) 65533 (pre) (mark .ensures)
+
+returns : tie.Need-returns
+returns c =
+    let args = c .before .before .before .before .before .before .before .before .before .before .args in
+    let word = c .before .before .before .before .before .before .before .before .word in
+    let is-pair = c .before .before .before .before .before .before .before .is-pair in
+    let if1 = c .before .before .before .before .before .before .if1 in
+    let word2 = c .before .before .before .before .before .word2 in
+    let word3 = c .before .before .before .before .word3 in
+    let mark = c .before .before .mark in
+    let mark2 = c .mark2 in
+    pair-counts (args .nodes .now) (args .marks .now) (mark .last .0) (mark2 .last .0) (args .node) (word2 .result) (word3 .result) (pair-test (args .nodes .now) (args .node) (word .result) (is-pair .result) true (word .ensures) (is-pair .ensures) (if1 .taken)) (word2 .ensures) (word3 .ensures) (mark .ensures) (mark2 .ensures)
+
+returns-2 : tie.Need-returns-2
+returns-2 c =
+    let args = c .before .before .before .before .args in
+    let pre = c .before .before .before .before .pre in
+    let word = c .before .before .word in
+    let is-pair = c .before .is-pair in
+    let if1 = c .if1 in
+    none-counts (args .nodes .now) (args .marks .now) (args .node) (pre .0) (pair-test (args .nodes .now) (args .node) (word .result) (is-pair .result) false (word .ensures) (is-pair .ensures) (if1 .left))
+
+pub mark-children-spec : {M : Type 1} → statement M
+mark-children-spec = tie.close (tie.spec (λ c κs. tt) (λ c κs. tt) (λ c κs. tt) (λ c κs. tt) mark-requires mark-requires-2 returns returns-2)

@@ -1,0 +1,9 @@
+-- `tables::record_of` meets its contract. Assumes nothing.
+use Rattle.sedona_expr.proofs.tables.record_of.Statement.{statement}
+use Rattle.sedona_expr.proofs.tables.record_of.Tie as tie
+
+returns : tie.Need-returns
+returns c = rw (c .box-at .ensures, c .before .place .ensures, c .before .before .word2 .ensures, c .before .before .before .word .ensures)
+
+pub record-of-spec : {M : Type 1} → statement M
+record-of-spec = tie.close (tie.spec (λ c κs. tt) (λ c κs. tt) (λ c κs. tt) (λ c κs. tt) returns)

@@ -1,0 +1,184 @@
+// The tables that are lent to a filter call, and what is read in them. A filter comes as a table of
+// nodes, four words each; the last node is the root. The words are a kind and three more:
+//   0 Intersects, 1 Covers   column index, name number, literal number
+//   3 And, 4 Or              left node, right node, unread
+//   5 LiteralFalse, 6 Unknown   unread
+// and 2, HasZ, is refused. Boxes, the literals and the columns' records, come as eight doubles each,
+// low and high of x, y, z, m, and a flag byte: 1 box, 2 z known, 4 m known.
+ghost use mathlib.Core.Path.{_≡_};
+ghost use Prim.Native.Nat.{_≤_, _+_, _*_};
+ghost use lib.ListN.{length, drop};
+ghost use Rattle.sedona_expr.specs.Tables as tables;
+use crate::statistics::Bbox;
+use sedona_geometry::bounding_box::BoundingBox;
+use sedona_geometry::bounding_box::Dimension;
+use sedona_geometry::interval::Interval;
+use sedona_geometry::interval::WraparoundInterval;
+
+// The kinds of nodes. An Unknown, 6, is the last of them.
+pub(crate) const INTERSECTS: u32 = 0;
+
+pub(crate) const COVERS: u32 = 1;
+
+pub(crate) const HAS_Z_KIND: u32 = 2;
+
+pub(crate) const AND: u32 = 3;
+
+pub(crate) const OR: u32 = 4;
+
+pub(crate) const LITERAL_FALSE: u32 = 5;
+
+pub(crate) const LAST_KIND: u32 = 6;
+
+// Doubles of a box.
+pub(crate) const ENDS: usize = 8;
+
+// Words of a node.
+pub(crate) const NODE: usize = 4;
+
+// Word k of a node; 0 past the end.
+pub(crate) fn word(nodes: &[u32], node: u32, k: u32) -> u32
+    ensures { λ r. ⌜ r ≡ tables.word (now (nodes .entry)) node k ⌝ }
+{
+    let at = NODE * node as usize + k as usize;
+    if at < nodes.len() { nodes[at] } else { 0 }
+}
+
+// An Intersects or a Covers.
+pub(crate) fn is_leaf(kind: u32) -> bool
+    ensures { λ r. ⌜ r ≡ tables.isLeaf kind ⌝ }
+{
+    if kind == INTERSECTS {
+        return true;
+    }
+    kind == COVERS
+}
+
+// An And or an Or.
+pub(crate) fn is_pair(kind: u32) -> bool
+    ensures { λ r. ⌜ r ≡ tables.isPair kind ⌝ }
+{
+    if kind == AND {
+        return true;
+    }
+    kind == OR
+}
+
+// Interval k, of x, y, z, m, of the box at a place.
+fn interval_at(doubles: &[f64], place: usize, k: usize) -> Interval
+    requires { ⌜ (8 * place + 8 ≤ length (now doubles)) × (k ≤ 3) ⌝ }
+    ensures { λ r. ⌜ r ≡ tables.intervalAt (now (doubles .entry)) place k ⌝ }
+{
+    let at = ENDS * place + 2 * k;
+    Interval::new(doubles[at], doubles[at + 1])
+}
+
+// A z or m, where the flag knows it.
+fn dimension(known: bool, i: Interval) -> Dimension
+    ensures { λ r. ⌜ r ≡ tables.dimension known i ⌝ }
+{
+    if known {
+        Dimension::Known(i)
+    } else {
+        Dimension::Missing
+    }
+}
+
+// The box at a place, with its flag.
+fn box_with(doubles: &[f64], place: usize, flag: u8) -> BoundingBox
+    requires { ⌜ 8 * place + 8 ≤ length (now doubles) ⌝ }
+    ensures { λ r. ⌜ r ≡ tables.boxWith (now (doubles .entry)) place flag ⌝ }
+{
+    let x = interval_at(doubles, place, 0);
+    let y = interval_at(doubles, place, 1);
+    let z = interval_at(doubles, place, 2);
+    let m = interval_at(doubles, place, 3);
+    BoundingBox::xyzm(
+        WraparoundInterval::from_interval(x),
+        y,
+        dimension(flag / 2 % 2 == 1, z),
+        dimension(flag / 4 % 2 == 1, m),
+    )
+}
+
+// The box at a place; none where the flag says so, and none past the end.
+fn box_at(doubles: &[f64], flags: &[u8], place: usize) -> Bbox
+    ensures { λ r. ⌜ r ≡ tables.boxAt (tables.boxes (now (doubles .entry)) (now (flags .entry))) place ⌝ }
+{
+    if place >= doubles.len() / ENDS {
+        return Bbox::Missing;
+    }
+    if place >= flags.len() {
+        return Bbox::Missing;
+    }
+    let flag = flags[place];
+    if flag % 2 == 1 {
+        return Bbox::Known(box_with(doubles, place, flag));
+    }
+    Bbox::Missing
+}
+
+// A literal's box.
+fn or_empty(b: Bbox) -> BoundingBox
+    ensures { λ r. ⌜ r ≡ tables.orEmpty b ⌝ }
+{
+    let Bbox::Known(bounds) = b else {
+        return BoundingBox::empty();
+    };
+    bounds
+}
+
+// The literal of a leaf.
+pub(crate) fn literal_of(
+    nodes: &[u32],
+    literals: &[f64],
+    literal_flags: &[u8],
+    node: u32,
+) -> BoundingBox
+    ensures { λ r. ⌜ r ≡ tables.literal (tables.table (now (nodes .entry)) (now (literals .entry)) (now («literal_flags» .entry))) node ⌝ }
+{
+    let b = box_at(literals, literal_flags, word(nodes, node, 3) as usize);
+    or_empty(b)
+}
+
+// The first place of a name from a place on; the length where it is not among the rest.
+pub(crate) fn place_of(names: &[u32], from: usize, name: u32) -> usize
+    requires { ⌜ from ≤ length (now names) ⌝ }
+    ensures { λ r. ⌜ r ≡ from + tables.placeOf (drop from (now (names .entry))) name ⌝ }
+{
+    let mut i = from;
+    while i < names.len() {
+        if names[i] == name {
+            return i;
+        }
+        i += 1;
+    }
+    i
+}
+
+// The place of a leaf's record: by its index, or by its name.
+fn place(named: bool, names: &[u32], index: u32, name: u32) -> usize
+    ensures { λ r. ⌜ r ≡ tables.place (tables.lookup named (now (names .entry))) (tables.column index name) ⌝ }
+{
+    if named {
+        place_of(names, 0, name)
+    } else {
+        index as usize
+    }
+}
+
+// The box of the record of a leaf.
+pub(crate) fn record_of(
+    nodes: &[u32],
+    records: &[f64],
+    record_flags: &[u8],
+    named: bool,
+    names: &[u32],
+    node: u32,
+) -> Bbox
+    ensures { λ r. ⌜ r ≡ tables.recordOf (tables.lookup named (now (names .entry))) (tables.boxes (now (records .entry)) (now («record_flags» .entry))) (tables.columnOf (now (nodes .entry)) node) ⌝ }
+{
+    let index = word(nodes, node, 1);
+    let name = word(nodes, node, 2);
+    box_at(records, record_flags, place(named, names, index, name))
+}
