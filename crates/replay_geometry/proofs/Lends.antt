@@ -41,9 +41,8 @@ use denote.Triple.Clauses.{Clauses, Ended, lasts, closing}
 use denote.Triple.Entry.{onEntry}
 use denote.Triple.Spec.{Meets, tripleOf}
 use denote.Triple.Walked.{Stays, stay-none, walkOf, AllGo, goes-none, Walks, ends-at, walked, walk-meets}
-use Rattle.sedona_geometry.proofs.Kind.{Kind, row, Laws}
+use Rattle.sedona_geometry.proofs.Kind.{Kind, row, Laws, unit-kind, unit-laws}
 use Rattle.sedona_geometry.proofs.Says.{says-all, needs-of}
-use Rattle.replay_geometry.proofs.MoreKinds.{unit-kind, unit-laws}
 
 -- ---- a local's cell is a value in memory, and a value in memory is a cell
 module _ {M : Type 1} (𝓤 : URA M) (H : Heap 𝓤) (A : Atoms 𝓤) (W : Given 𝓤 H A) (S : Kind) (LS : Laws S) where

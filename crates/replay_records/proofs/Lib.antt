@@ -1,1 +1,2 @@
+pub mod ArrayKind
 pub mod LendsFirst

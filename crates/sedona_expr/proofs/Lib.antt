@@ -14,7 +14,6 @@ pub mod Searches
 pub mod StraightBoxes
 pub mod Theorems
 pub mod Trees
-pub mod UpdateOut
 pub mod WantedRow
 pub mod While
 pub mod Whole

@@ -6,8 +6,7 @@ use denote.Triple.Table.{entered, cited}
 use Rattle.sedona_geometry.specs.BoundingBox.{updateBox}
 use Rattle.sedona_geometry.proofs.bounding_box.BoundingBox as T
 use Rattle.sedona_geometry.proofs.bounding_box.BoundingBox.Laws as T′
-use Rattle.sedona_geometry.proofs.Kind.{Kind, Laws, struct-kind, struct-laws}
-use Rattle.replay_geometry.proofs.MoreKinds.{unit-kind, unit-laws}
+use Rattle.sedona_geometry.proofs.Kind.{Kind, Laws, struct-kind, struct-laws, unit-kind, unit-laws}
 use Rattle.replay_geometry.proofs.Lends.{left-alone, meets}
 use Rattle.sedona_geometry.proofs.bounding_box.BoundingBox.update_box as called
 use Rattle.sedona_geometry.proofs.bounding_box.BoundingBox.update_box.Symbol as called-def
