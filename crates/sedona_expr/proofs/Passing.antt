@@ -10,7 +10,7 @@ use lib.ListN.{length}
 use borrow.Author.Tests.{eqb-true, eqb-false, eq-eqb, ne-eqb, ltb-false}
 use Rattle.sedona_expr.specs.Error as error
 use Rattle.sedona_expr.specs.Tables.{Boxes, Table, Lookup, lookup, kind, word, count, isPair, isLeaf}
-use Rattle.sedona_expr.specs.Refusals.{orElse, when, wordsRefusal, boxesRefusal, asksIndex, isLent, leafRefusal, nodeRefusal, nodesRefusal, usesRefusal, treeRefusal, recordsRefusal, refusal, boxRefusal}
+use Rattle.sedona_expr.specs.Refusals.{orElse, when, wordsRefusal, asksIndex, isLent, leafRefusal, nodeRefusal, nodesRefusal, usesRefusal, tableRefusal, treeRefusal, recordsRefusal, refusal, boxRefusal}
 
 -- ---- eight doubles a flag, by quotient and remainder
 pub not-in-eights : (d f : ℕ) → (d % 8 ≡ 0 → ⊥) → eqb d (8 * f) ≡ false
@@ -22,7 +22,17 @@ not-so-many d f h = ne-eqb d (8 * f) (λ e. h (omega arith))
 pub eights : (d f : ℕ) → d % 8 ≡ 0 → d / 8 ≡ f → eqb d (8 * f) ≡ true
 eights d f h k = eq-eqb d (8 * f) (omega arith)
 
--- ---- refusals
+-- ---- the first of two numbers that is not 0
+-- where a test of the first, n, was on the way
+pub or-else-stop : {m n : ℕ} (k : ℕ) → n ≡ m → (n ≡ 0 → ⊥) → n ≡ orElse m k
+unfolding orElse
+or-else-stop {m} {n} k e h = rw (← e, ne-eqb n 0 h)
+
+pub or-else-next : {m n k o : ℕ} → n ≡ m → n ≡ 0 → o ≡ k → o ≡ orElse m k
+unfolding orElse
+or-else-next e h f = rw (← e, h) f
+
+-- it is 0 where both are
 pub or-else-zero : (m n : ℕ) → orElse m n ≡ 0 → (m ≡ 0) × (n ≡ 0)
 unfolding orElse
 or-else-zero m n = go (eqb m 0) refl
@@ -37,7 +47,7 @@ asked true ns = refl
 asked false ns = refl
 
 -- as many words as pass make 1 node to 1,024
-pub words-pass : (ns : List ℕ) → wordsRefusal ns ≡ 0 → (1 ≤ count ns) × (length ns ≤ 4096)
+words-pass : (ns : List ℕ) → wordsRefusal ns ≡ 0 → (1 ≤ count ns) × (length ns ≤ 4096)
 unfolding wordsRefusal
 words-pass ns = go (eqb (length ns) 0) (eqb (length ns % 4) 0) (ltb 4096 (length ns)) refl refl refl
   where
@@ -50,13 +60,17 @@ words-pass ns = go (eqb (length ns) 0) (eqb (length ns % 4) 0) (ltb 4096 (length
         let d : (length ns ≡ 0 → ⊥) = eqb-false (length ns) 0 e in
         (omega (arith, eqb-true (length ns % 4) 0 f), ltb-false 4096 (length ns) g)
 
+pub table-pass : (t : Table) (n : ℕ) → n ≡ tableRefusal t → n ≡ 0 → (1 ≤ count (t .nodes)) × (length (t .nodes) ≤ 4096)
+unfolding tableRefusal
+table-pass t n is e = words-pass (t .nodes) (or-else-zero (wordsRefusal (t .nodes)) _ (sym is ∙ e) .0)
+
 pub refusal-pass : (l : Lookup) (t : Table) (r : Boxes) (n : ℕ) → n ≡ refusal l t r → n ≡ 0 → (1 ≤ count (t .nodes)) × (length (t .nodes) ≤ 4096)
 unfolding refusal
-refusal-pass l t r n is e = words-pass (t .nodes) (or-else-zero (wordsRefusal (t .nodes)) _ (sym is ∙ e) .0)
+refusal-pass l t r n is e = table-pass t (tableRefusal t) refl (or-else-zero (tableRefusal t) _ (sym is ∙ e) .0)
 
 pub box-refusal-pass : (t : Table) (n : ℕ) → n ≡ boxRefusal t → n ≡ 0 → (1 ≤ count (t .nodes)) × (length (t .nodes) ≤ 4096)
 unfolding boxRefusal
-box-refusal-pass t n is e = words-pass (t .nodes) (or-else-zero (wordsRefusal (t .nodes)) _ (sym is ∙ e) .0)
+box-refusal-pass t n is e = table-pass t (tableRefusal t) refl (or-else-zero (tableRefusal t) _ (sym is ∙ e) .0)
 
 -- ---- which numbers are 0
 or-else-none : {m n : ℕ} → m ≡ 0 → n ≡ 0 → orElse m n ≡ 0
@@ -97,7 +111,6 @@ unfolding refusal boxRefusal
 box-not-refused l t r h =
     let lent = isLent (asksIndex l) (length (r .flags)) in
     let tree = treeRefusal (t .nodes) (length (t .literals .flags)) lent in
-    let a = or-else-zero (wordsRefusal (t .nodes)) (orElse (boxesRefusal false (t .literals)) (orElse (recordsRefusal l r) tree)) h in
-    let b = or-else-zero (boxesRefusal false (t .literals)) (orElse (recordsRefusal l r) tree) (a .1) in
-    let c = or-else-zero (recordsRefusal l r) tree (b .1) in
-    or-else-none (a .0) (or-else-none (b .0) (tree-none (t .nodes) (length (t .literals .flags)) lent (c .1)))
+    let a = or-else-zero (tableRefusal t) (orElse (recordsRefusal l r) tree) h in
+    let b = or-else-zero (recordsRefusal l r) tree (a .1) in
+    or-else-none (a .0) (tree-none (t .nodes) (length (t .literals .flags)) lent (b .1))

@@ -159,7 +159,7 @@ module _ (l : Lookup) (wellFormed : refusals.refusal l t r ≡ 0) (first : table
 
 -- ---- each call
 pub by-position : MayMatch byPosition t r × Reaches t row names
-unfolding refusals.orElse refusals.wordsRefusal refusals.goodFlag refusals.boxesRefusal refusals.namesRefusal refusals.twiceRefusal refusals.recordsRefusal tables.areBelow refusals.pairRefusal refusals.isLent refusals.leafRefusal refusals.nodeRefusal refusals.usesBy refusals.usesRefusal refusals.treeRefusal refusals.refusal tables.place
+unfolding refusals.orElse refusals.wordsRefusal refusals.goodFlag refusals.boxesRefusal refusals.namesRefusal refusals.twiceRefusal refusals.recordsRefusal tables.areBelow refusals.pairRefusal refusals.isLent refusals.leafRefusal refusals.nodeRefusal refusals.usesBy refusals.usesRefusal refusals.tableRefusal refusals.treeRefusal refusals.refusal tables.place
 by-position = both-halves byPosition refl refl refl tt
 
 lent-numbers : Numbers (byName lent) names
@@ -168,5 +168,5 @@ lent-numbers (suc zero) h = refl
 lent-numbers (suc (suc i)) h = absurd (omega arith)
 
 pub by-name : MayMatch (byName lent) t r × Reaches t row names
-unfolding refusals.orElse refusals.wordsRefusal refusals.goodFlag refusals.boxesRefusal tables.placeOf refusals.hasTwice refusals.namesRefusal refusals.twiceRefusal refusals.recordsRefusal tables.areBelow refusals.pairRefusal refusals.isLent refusals.leafRefusal refusals.nodeRefusal refusals.usesBy refusals.usesRefusal refusals.treeRefusal refusals.refusal tables.place
+unfolding refusals.orElse refusals.wordsRefusal refusals.goodFlag refusals.boxesRefusal tables.placeOf refusals.hasTwice refusals.namesRefusal refusals.twiceRefusal refusals.recordsRefusal tables.areBelow refusals.pairRefusal refusals.isLent refusals.leafRefusal refusals.nodeRefusal refusals.usesBy refusals.usesRefusal refusals.tableRefusal refusals.treeRefusal refusals.refusal tables.place
 by-name = both-halves (byName lent) refl refl refl lent-numbers

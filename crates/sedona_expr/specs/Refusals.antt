@@ -114,6 +114,10 @@ usesRefusal ns = when (not (allBelow (λ m. eqb (uses ns (count ns) m) 1) (count
 
 -- ---- the order
 
+-- Of the table: its words, then its literals.
+unfoldable pub tableRefusal : Table → ℕ
+tableRefusal t = orElse (wordsRefusal (t .nodes)) (boxesRefusal false (t .literals))
+
 -- Of the nodes: each upward, then the use count.
 unfoldable pub treeRefusal : List ℕ → ℕ → (ℕ → Bool) → ℕ
 treeRefusal ns literals lent = orElse (nodesRefusal ns literals lent (count ns)) (usesRefusal ns)
@@ -126,12 +130,9 @@ asksIndex (byName ns) = false
 -- The first number in 01's order.
 unfoldable pub refusal : Lookup → Table → Boxes → ℕ
 refusal l t r =
-    orElse (wordsRefusal (t .nodes))
-    (orElse (boxesRefusal false (t .literals))
-    (orElse (recordsRefusal l r) (treeRefusal (t .nodes) (length (t .literals .flags)) (isLent (asksIndex l) (length (r .flags))))))
+    orElse (tableRefusal t)
+    (orElse (recordsRefusal l r) (treeRefusal (t .nodes) (length (t .literals .flags)) (isLent (asksIndex l) (length (r .flags)))))
 
 -- Of `filter_bbox`, which has no records.
 unfoldable pub boxRefusal : Table → ℕ
-boxRefusal t =
-    orElse (wordsRefusal (t .nodes))
-    (orElse (boxesRefusal false (t .literals)) (treeRefusal (t .nodes) (length (t .literals .flags)) (isLent false 0)))
+boxRefusal t = orElse (tableRefusal t) (treeRefusal (t .nodes) (length (t .literals .flags)) (isLent false 0))

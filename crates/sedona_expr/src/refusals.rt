@@ -287,6 +287,17 @@ fn tree_refusal(nodes: &[u32], literals: usize, asked: bool, columns: usize) -> 
     uses_refusal(nodes)
 }
 
+// What the table is refused by: its words, then its literals.
+fn table_refusal(nodes: &[u32], literals: &[f64], literal_flags: &[u8]) -> u32
+    ensures { λ r. ⌜ r ≡ refusals.tableRefusal (tables.table (now (nodes .entry)) (now (literals .entry)) (now («literal_flags» .entry))) ⌝ }
+{
+    let number = words_refusal(nodes);
+    if number != 0 {
+        return number;
+    }
+    boxes_refusal(false, literals, literal_flags)
+}
+
 // What a call is refused by: the first number in this order.
 pub(crate) fn refusal(
     nodes: &[u32],
@@ -299,11 +310,7 @@ pub(crate) fn refusal(
 ) -> u32
     ensures { λ r. ⌜ r ≡ refusals.refusal (tables.lookup named (now (names .entry))) (tables.table (now (nodes .entry)) (now (literals .entry)) (now («literal_flags» .entry))) (tables.boxes (now (records .entry)) (now («record_flags» .entry))) ⌝ }
 {
-    let number = words_refusal(nodes);
-    if number != 0 {
-        return number;
-    }
-    let number = boxes_refusal(false, literals, literal_flags);
+    let number = table_refusal(nodes, literals, literal_flags);
     if number != 0 {
         return number;
     }
@@ -318,11 +325,7 @@ pub(crate) fn refusal(
 pub(crate) fn box_refusal(nodes: &[u32], literals: &[f64], literal_flags: &[u8]) -> u32
     ensures { λ r. ⌜ r ≡ refusals.boxRefusal (tables.table (now (nodes .entry)) (now (literals .entry)) (now («literal_flags» .entry))) ⌝ }
 {
-    let number = words_refusal(nodes);
-    if number != 0 {
-        return number;
-    }
-    let number = boxes_refusal(false, literals, literal_flags);
+    let number = table_refusal(nodes, literals, literal_flags);
     if number != 0 {
         return number;
     }
