@@ -46,7 +46,7 @@ fn words_refusal(nodes: &[u32]) -> u32
 }
 
 // Whether a flag is 1, 3, 5 or 7; or 0, where a box may be missing.
-fn is_good_flag(none: bool, flag: u8) -> bool
+pub fn is_good_flag(none: bool, flag: u8) -> bool
     ensures { λ r. ⌜ r ≡ refusals.goodFlag none flag ⌝ }
 {
     if flag == 0 {

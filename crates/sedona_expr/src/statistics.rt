@@ -326,7 +326,7 @@ pub fn fold(records: &[GeoStatistics]) -> Folded
 
 impl Folded {
     // Of no records.
-    fn start() -> Folded
+    pub fn start() -> Folded
         ensures { λ r. ⌜ r ≡ statistics.start ⌝ }
     {
         Folded {
@@ -337,7 +337,7 @@ impl Folded {
     }
 
     // With a record more. A refusal stays.
-    fn step(self, next: GeoStatistics) -> Folded
+    pub fn step(self, next: GeoStatistics) -> Folded
         ensures { λ r. ⌜ r ≡ statistics.step self next ⌝ }
     {
         if self.number != 0 {

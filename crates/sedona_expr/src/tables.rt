@@ -102,7 +102,7 @@ fn box_with(doubles: &[f64], place: usize, flag: u8) -> BoundingBox
 }
 
 // The box at a place; none where the flag says so, and none past the end.
-fn box_at(doubles: &[f64], flags: &[u8], place: usize) -> Bbox
+pub fn box_at(doubles: &[f64], flags: &[u8], place: usize) -> Bbox
     ensures { λ r. ⌜ r ≡ tables.boxAt (tables.boxes (now (doubles .entry)) (now (flags .entry))) place ⌝ }
 {
     if place >= doubles.len() / ENDS {

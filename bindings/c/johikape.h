@@ -1,0 +1,189 @@
+/* Johikape: which files of a spatial archive a query may skip.
+ *
+ * C's side of a library each of whose functions is proved to give what its definition says.
+ *
+ * No function keeps state or a pointer, allocates, or writes anywhere but where its comment says, so
+ * any number of threads may call any of them at once, on data that nobody changes meanwhile. What is
+ * lent stays the caller's. A list is a pointer and its count; with a count of 0 the pointer may be
+ * NULL. What is written must not overlap another argument. A pointer must be good for what its type
+ * and count say; behind it every value is allowed, and a bad one gets its number (below). Where a
+ * function answers the number of a refusal, it has written nothing.
+ *
+ * A BOX is eight doubles, low and high of x, y, z and m, and flags: JOHIKAPE_BOX, with JOHIKAPE_Z
+ * and JOHIKAPE_M where z and m are known. Ends of what is not known are not read, and are written as
+ * 0. An x may have its low above its high: it wraps around then. Ends may be infinite or NaN.
+ *
+ * A RECORD is ten doubles (the eight of its box, then the summed width and height of envelopes),
+ * seven totals (geometries, bytes, points, and the counts of puntal, lineal, polygonal and
+ * collection geometries), a set of geometry types as 32 bits, and flags that say what is known.
+ *
+ * A FILTER is a list of nodes, four words each; the last is the root. The words are a kind and
+ *     JOHIKAPE_INTERSECTS, JOHIKAPE_COVERS    column index, name number, literal number
+ *     JOHIKAPE_AND, JOHIKAPE_OR               left node, right node (both below it), unread
+ *     JOHIKAPE_LITERAL_FALSE, JOHIKAPE_UNKNOWN    three words unread
+ * Literals and the columns' records are lists of boxes: eight doubles each, and a list of flags. */
+#ifndef JOHIKAPE_H
+#define JOHIKAPE_H
+
+#include <stdbool.h>
+#include <stddef.h>
+#include <stdint.h>
+
+#ifdef __cplusplus
+extern "C" {
+#endif
+
+/* The numbers that refuse a call. */
+enum johikape_number {
+    JOHIKAPE_OK = 0,
+    JOHIKAPE_TWO_PARTS = 1,    /* the intersection of two x has two parts */
+    JOHIKAPE_OVERFLOW = 3,     /* a total leaves the range of an int64_t */
+    JOHIKAPE_WORDS = 4,        /* node words none, not in fours, or over 4,096 */
+    JOHIKAPE_UNKNOWN_KIND = 5, /* a kind over 6 */
+    JOHIKAPE_HAS_Z = 6,        /* a node of kind 2, HasZ */
+    JOHIKAPE_BAD_TREE = 7,     /* a child not below its parent, or a node but the root not used once */
+    JOHIKAPE_BOXES = 8,        /* bad flags, or lists whose lengths do not fit */
+    JOHIKAPE_NO_LITERAL = 9,   /* a literal number that is not lent */
+    JOHIKAPE_NO_COLUMN = 10,   /* by position: a column index that is not lent */
+    JOHIKAPE_NAME_TWICE = 11   /* by name: a name number twice among the records */
+};
+
+/* What a test answers, where it is not refused. */
+enum johikape_answer {
+    JOHIKAPE_NO = 0,
+    JOHIKAPE_YES = 1
+};
+
+/* What a filter answers, where it is not refused. */
+enum johikape_evaluation {
+    JOHIKAPE_CANNOT_MATCH = 0,
+    JOHIKAPE_MAY_MATCH = 1
+};
+
+/* Flags of a box: 1, 3, 5 or 7; of a column's record 0 too, for none. */
+enum johikape_box_flag {
+    JOHIKAPE_BOX = 1,
+    JOHIKAPE_Z = 2,
+    JOHIKAPE_M = 4
+};
+
+/* Flags of a record: those of its box, or 0 for none, and these. */
+enum johikape_record_flag {
+    JOHIKAPE_TYPES = 8,
+    JOHIKAPE_TOTAL_GEOMETRIES = 16,
+    JOHIKAPE_TOTAL_SIZE_BYTES = 32,
+    JOHIKAPE_TOTAL_POINTS = 64,
+    JOHIKAPE_PUNTAL_COUNT = 128,
+    JOHIKAPE_LINEAL_COUNT = 256,
+    JOHIKAPE_POLYGONAL_COUNT = 512,
+    JOHIKAPE_COLLECTION_COUNT = 1024,
+    JOHIKAPE_TOTAL_ENVELOPE_WIDTH = 2048,
+    JOHIKAPE_TOTAL_ENVELOPE_HEIGHT = 4096
+};
+
+/* Kinds of nodes. */
+enum johikape_kind {
+    JOHIKAPE_INTERSECTS = 0,
+    JOHIKAPE_COVERS = 1,
+    JOHIKAPE_AND = 3,
+    JOHIKAPE_OR = 4,
+    JOHIKAPE_LITERAL_FALSE = 5,
+    JOHIKAPE_UNKNOWN = 6
+};
+
+/* ---- filters */
+
+/* Whether a file may have a row that the filter wants: JOHIKAPE_CANNOT_MATCH or JOHIKAPE_MAY_MATCH;
+ * or the number that refuses the filter, 4 to 10. A leaf's column index picks its record. */
+uint32_t johikape_evaluate_by_position(const uint32_t *nodes, size_t nodes_count,
+                                       const double *literals, size_t literals_count,
+                                       const uint8_t *literal_flags, size_t literal_flags_count,
+                                       const double *records, size_t records_count,
+                                       const uint8_t *record_flags, size_t record_flags_count);
+
+/* The same; or a number from 4 to 9, or 11. A leaf's name number is sought among the names, one for
+ * each record; one that is not there counts as a record without a box. */
+uint32_t johikape_evaluate_by_name(const uint32_t *nodes, size_t nodes_count,
+                                   const double *literals, size_t literals_count,
+                                   const uint8_t *literal_flags, size_t literal_flags_count,
+                                   const double *records, size_t records_count,
+                                   const uint8_t *record_flags, size_t record_flags_count,
+                                   const uint32_t *names, size_t names_count);
+
+/* The filter's box for the column of a name number, into ends and flags: what an index scan looks
+ * up. 0, or a number from 4 to 9. */
+uint32_t johikape_filter_bbox(const uint32_t *nodes, size_t nodes_count,
+                              const double *literals, size_t literals_count,
+                              const uint8_t *literal_flags, size_t literal_flags_count,
+                              uint32_t name, double ends[8], uint8_t *flags);
+
+/* ---- records */
+
+/* Merges another record into one: boxes and types around both, totals added where both know them.
+ * 0; or JOHIKAPE_OVERFLOW or JOHIKAPE_BOXES, and the record stays as it was. */
+uint32_t johikape_merge(double doubles[10], int64_t totals[7], uint32_t *types, uint32_t *flags,
+                        const double other_doubles[10], const int64_t other_totals[7],
+                        uint32_t other_types, uint32_t other_flags);
+
+/* Folds records in their order into one: ten doubles, seven totals, a type set and flags each. Of no
+ * records nothing is known. 0; or JOHIKAPE_OVERFLOW, or JOHIKAPE_BOXES where the lists do not fit or
+ * flags are bad. */
+uint32_t johikape_fold(const double *doubles, size_t doubles_count,
+                       const int64_t *totals, size_t totals_count,
+                       const uint32_t *types, size_t types_count,
+                       const uint32_t *flags, size_t flags_count,
+                       double out_doubles[10], int64_t out_totals[7], uint32_t *out_types,
+                       uint32_t *out_flags);
+
+/* ---- boxes */
+
+/* JOHIKAPE_YES or JOHIKAPE_NO; or JOHIKAPE_BOXES where flags are bad. z and m are looked at only
+ * where both boxes know them. */
+uint32_t johikape_box_intersects(const double a[8], uint8_t a_flags, const double b[8],
+                                 uint8_t b_flags);
+uint32_t johikape_box_contains(const double a[8], uint8_t a_flags, const double b[8],
+                               uint8_t b_flags);
+
+/* The first box becomes one around both; or what both hold; or itself moved outward in x and y. 0;
+ * or JOHIKAPE_BOXES; of the intersection also JOHIKAPE_TWO_PARTS; and the box stays as it was. */
+uint32_t johikape_box_merge(double a[8], uint8_t *a_flags, const double b[8], uint8_t b_flags);
+uint32_t johikape_box_intersection(double a[8], uint8_t *a_flags, const double b[8],
+                                   uint8_t b_flags);
+uint32_t johikape_box_expand_by(double a[8], uint8_t *a_flags, double distance);
+
+/* ---- intervals: plain ones, as y, z and m are, and x, which may wrap around */
+
+typedef struct johikape_interval {
+    double lo;
+    double hi;
+} johikape_interval;
+
+bool johikape_interval_accepts(johikape_interval a, double value);
+bool johikape_interval_intersects(johikape_interval a, johikape_interval b);
+bool johikape_interval_contains(johikape_interval a, johikape_interval b);
+bool johikape_interval_is_empty(johikape_interval a);
+double johikape_interval_width(johikape_interval a);
+double johikape_interval_mid(johikape_interval a);
+johikape_interval johikape_interval_merge(johikape_interval a, johikape_interval b);
+johikape_interval johikape_interval_merge_value(johikape_interval a, double value);
+johikape_interval johikape_interval_intersection(johikape_interval a, johikape_interval b);
+johikape_interval johikape_interval_expand_by(johikape_interval a, double distance);
+
+bool johikape_x_wraps(johikape_interval a);
+bool johikape_x_accepts(johikape_interval a, double value);
+bool johikape_x_intersects(johikape_interval a, johikape_interval b);
+bool johikape_x_contains(johikape_interval a, johikape_interval b);
+bool johikape_x_is_empty(johikape_interval a);
+double johikape_x_width(johikape_interval a);
+double johikape_x_mid(johikape_interval a);
+johikape_interval johikape_x_merge(johikape_interval a, johikape_interval b);
+johikape_interval johikape_x_merge_value(johikape_interval a, double value);
+johikape_interval johikape_x_expand_by(johikape_interval a, double distance);
+
+/* What both hold, into lo and hi. 0; or JOHIKAPE_TWO_PARTS, and nothing is written. */
+uint32_t johikape_x_intersection(johikape_interval a, johikape_interval b, double *lo, double *hi);
+
+#ifdef __cplusplus
+}
+#endif
+#endif

@@ -1,0 +1,142 @@
+"""Boxes: an x that may wrap around, a y, and a z and an m that may be missing."""
+
+from __future__ import annotations
+
+from ctypes import byref, c_double, c_uint8
+from dataclasses import dataclass
+from typing import Any, Optional, Sequence, Tuple, Union
+
+from ._library import library
+from ._values import Value, double
+from .interval import Interval, WraparoundInterval
+from .refusal import accept, answer
+
+# Flags of a box. A box that is not there has none of them.
+BOX, Z, M = 1, 2, 4
+BOX_FLAGS = BOX | Z | M
+ENDS = 8
+
+_Array = c_double * ENDS
+_Pair = Tuple[float, float]
+
+
+@dataclass(frozen=True, init=False, repr=False)
+class BoundingBox(Value):
+    """A box over x, y, z and m. Each is an interval or a pair (lo, hi).
+
+    z and m may be missing (None). Missing is not empty: it rules nothing out.
+
+    >>> pile_six = BoundingBox((10, 20), (38, 46), m=(55, 120))
+    >>> pile_six.intersects(BoundingBox((14, 17), (41, 43), z=(0.9, 1.6), m=(49, 63.5)))
+    True
+    >>> pile_six.intersects(BoundingBox((14, 17), (41, 43), m=(31.5, 48)))
+    False
+    """
+
+    __slots__ = ("x", "y", "z", "m")
+
+    x: WraparoundInterval
+    y: Interval
+    z: Optional[Interval]
+    m: Optional[Interval]
+
+    def __init__(
+        self,
+        x: Union[WraparoundInterval, _Pair],
+        y: Union[Interval, _Pair],
+        z: Union[Interval, _Pair, None] = None,
+        m: Union[Interval, _Pair, None] = None,
+    ) -> None:
+        self._set(
+            x=WraparoundInterval._taken(x, "x"),
+            y=Interval._taken(y, "y"),
+            z=None if z is None else Interval._taken(z, "z"),
+            m=None if m is None else Interval._taken(m, "m"),
+        )
+
+    def is_empty(self) -> bool:
+        """Whether x or y is empty."""
+        return self.x.is_empty() or self.y.is_empty()
+
+    def intersects(self, other: BoundingBox) -> bool:
+        """Whether the boxes meet. z and m are tested only where both know them."""
+        return answer(library.johikape_box_intersects(*self._lend(), *_lend(other)))
+
+    def contains(self, other: BoundingBox) -> bool:
+        """Whether the other lies in this one. z and m are tested only where both know them.
+
+        >>> BoundingBox((0, 10), (0, 1)).contains(BoundingBox((1, 2), (0, 1), z=(5, 6)))
+        True
+        """
+        return answer(library.johikape_box_contains(*self._lend(), *_lend(other)))
+
+    def merge(self, other: BoundingBox) -> BoundingBox:
+        """A box around both. z and m stay only where both know them.
+
+        >>> BoundingBox((0, 1), (0, 1), z=(2, 3)).merge(BoundingBox((4, 5), (0, 2)))
+        BoundingBox(x=WraparoundInterval(lo=0.0, hi=5.0), y=Interval(lo=0.0, hi=2.0))
+        """
+        return self._changed(library.johikape_box_merge, *_lend(other))
+
+    def intersection(self, other: BoundingBox) -> BoundingBox:
+        """What both hold; `Refusal` 1 where that of x has two parts. z and m stay only where both
+        know them."""
+        return self._changed(library.johikape_box_intersection, *_lend(other))
+
+    def expand_by(self, distance: float) -> BoundingBox:
+        """x and y moved outward; z and m stay.
+
+        >>> BoundingBox((20, 10), (0, 1)).expand_by(4)
+        BoundingBox(x=WraparoundInterval(lo=16.0, hi=14.0), y=Interval(lo=-4.0, hi=5.0))
+        """
+        return self._changed(library.johikape_box_expand_by, double(distance, "distance"))
+
+    def _changed(self, call: Any, *arguments: Any) -> BoundingBox:
+        """The box that a call makes of this one, which is lent to it as a copy."""
+        ends, flags = self._lend()
+        changed = c_uint8(flags)
+        accept(call(ends, byref(changed), *arguments))
+        return box_of(ends, changed.value)
+
+    def _lend(self) -> Tuple[Any, int]:
+        return _Array(*ends_of(self)), flags_of(self)
+
+
+def ends_of(box: Optional[BoundingBox]) -> Tuple[float, ...]:
+    """The eight doubles of a box, with 0 for what is missing."""
+    if box is None:
+        return (0.0,) * ENDS
+    z = _ZERO if box.z is None else box.z
+    m = _ZERO if box.m is None else box.m
+    return (box.x.lo, box.x.hi, box.y.lo, box.y.hi, z.lo, z.hi, m.lo, m.hi)
+
+
+def flags_of(box: Optional[BoundingBox]) -> int:
+    """The flags that say what is known of a box."""
+    if box is None:
+        return 0
+    return BOX | (0 if box.z is None else Z) | (0 if box.m is None else M)
+
+
+def box_of(ends: Sequence[float], flags: int) -> BoundingBox:
+    """The box of eight doubles and flags."""
+    return BoundingBox(
+        (ends[0], ends[1]),
+        (ends[2], ends[3]),
+        (ends[4], ends[5]) if flags & Z else None,
+        (ends[6], ends[7]) if flags & M else None,
+    )
+
+
+def new_ends() -> Any:
+    """Room for a box's eight doubles."""
+    return _Array()
+
+
+def _lend(other: Any) -> Tuple[Any, int]:
+    if not isinstance(other, BoundingBox):
+        raise TypeError(f"expected BoundingBox, not {type(other).__name__}")
+    return other._lend()
+
+
+_ZERO = Interval(0, 0)

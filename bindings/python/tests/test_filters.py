@@ -1,0 +1,238 @@
+"""Filters, as trees and as tables."""
+
+import pickle
+import unittest
+from array import array
+from functools import reduce
+
+import johikape
+from johikape import (
+    BoundingBox,
+    Column,
+    Evaluation,
+    Filter,
+    GeoStatistics,
+    Interval,
+    Refusal,
+    Tables,
+)
+
+MAY, CANNOT = Evaluation.MAY_MATCH, Evaluation.CANNOT_MATCH
+
+FIRST, SECOND = Column(0, 40), Column(1, 41)
+LOW = BoundingBox((0, 10), (0, 10))
+HIGH = BoundingBox((20, 30), (20, 30))
+
+
+class Leaves(unittest.TestCase):
+    def test_intersects(self):
+        wanted = Filter.intersects(FIRST, BoundingBox((5, 15), (5, 15)))
+        self.assertIs(wanted.evaluate_by_position([LOW]), MAY)
+        self.assertIs(wanted.evaluate_by_position([HIGH]), CANNOT)
+
+    def test_covers_asks_that_the_column_contains_the_literal(self):
+        inside = BoundingBox((1, 2), (1, 2))
+        self.assertIs(Filter.covers(FIRST, inside).evaluate_by_position([LOW]), MAY)
+        self.assertIs(Filter.covers(FIRST, LOW).evaluate_by_position([inside]), CANNOT)
+
+    def test_constants(self):
+        self.assertIs(Filter.literal_false().evaluate_by_position([]), CANNOT)
+        self.assertIs(Filter.unknown().evaluate_by_position([]), MAY)
+
+    def test_without_a_box_anything_may_match(self):
+        for leaf in (Filter.intersects(FIRST, LOW), Filter.covers(FIRST, LOW)):
+            for record in (None, GeoStatistics(), GeoStatistics(total_points=0)):
+                self.assertIs(leaf.evaluate_by_position([record]), MAY)
+
+    def test_records_and_their_boxes_are_alike(self):
+        wanted = Filter.intersects(FIRST, HIGH)
+        self.assertIs(wanted.evaluate_by_position([GeoStatistics(bbox=LOW)]), CANNOT)
+        self.assertIs(wanted.evaluate_by_position([GeoStatistics(bbox=HIGH)]), MAY)
+
+
+class Trees(unittest.TestCase):
+    def test_and_or(self):
+        yes, no = Filter.unknown(), Filter.literal_false()
+        for a, b in [(yes, yes), (yes, no), (no, yes), (no, no)]:
+            both = MAY if (a, b) == (yes, yes) else CANNOT
+            one = CANNOT if (a, b) == (no, no) else MAY
+            self.assertIs((a & b).evaluate_by_position([]), both)
+            self.assertIs((a | b).evaluate_by_position([]), one)
+            self.assertEqual(a & b, a.and_(b))
+            self.assertEqual(a | b, a.or_(b))
+
+    def test_each_leaf_reads_its_own_column(self):
+        wanted = Filter.intersects(FIRST, LOW) & Filter.intersects(SECOND, HIGH)
+        self.assertIs(wanted.evaluate_by_position([LOW, HIGH]), MAY)
+        self.assertIs(wanted.evaluate_by_position([HIGH, LOW]), CANNOT)
+        self.assertIs(wanted.evaluate_by_name({41: HIGH, 40: LOW}), MAY)
+        self.assertIs(wanted.evaluate_by_name([(41, LOW), (40, HIGH)]), CANNOT)
+
+    def test_the_tree_as_written(self):
+        # (a & b) | c and a & (b | c) differ where a and b cannot match and c may.
+        a, b, c = Filter.literal_false(), Filter.literal_false(), Filter.unknown()
+        self.assertIs(((a & b) | c).evaluate_by_position([]), MAY)
+        self.assertIs((a & (b | c)).evaluate_by_position([]), CANNOT)
+
+    def test_a_name_that_is_not_there_may_match(self):
+        wanted = Filter.intersects(FIRST, LOW)
+        self.assertIs(wanted.evaluate_by_name({}), MAY)
+        self.assertIs(wanted.evaluate_by_name({41: HIGH}), MAY)
+        self.assertIs(wanted.evaluate_by_name({40: HIGH}), CANNOT)
+
+    def test_filter_box(self):
+        wanted = Filter.intersects(FIRST, BoundingBox((0, 10), (0, 10), m=(55, 120)))
+        self.assertEqual(wanted.filter_bbox(40), BoundingBox((0, 10), (0, 10), m=(55, 120)))
+        everywhere = BoundingBox((-float("inf"), float("inf")), Interval.full())
+        self.assertEqual(wanted.filter_bbox(41), everywhere)
+        self.assertEqual(
+            (wanted | Filter.covers(FIRST, HIGH)).filter_bbox(40), BoundingBox((0, 30), (0, 30))
+        )
+        self.assertTrue(Filter.literal_false().filter_bbox(40).is_empty())
+
+    def test_may_match_with_an_empty_filter_box(self):
+        wanted = Filter.intersects(FIRST, BoundingBox((1, 2), (0, 1))) & Filter.intersects(
+            FIRST, BoundingBox((5, 6), (0, 1))
+        )
+        self.assertIs(wanted.evaluate_by_position([BoundingBox((0, 10), (0, 1))]), MAY)
+        box = wanted.filter_bbox(40)
+        self.assertTrue(box.x.is_empty())
+        self.assertEqual(box.y, Interval(0, 1))
+
+    def test_functions_of_the_same_names(self):
+        wanted = Filter.intersects(FIRST, LOW)
+        self.assertIs(johikape.evaluate_by_position(wanted, [HIGH]), CANNOT)
+        self.assertIs(johikape.evaluate_by_name(wanted, {40: LOW}), MAY)
+        self.assertEqual(johikape.filter_bbox(wanted, 40), LOW)
+
+    def test_chains(self):
+        # A chain of n pairs has 2n + 1 nodes. The last to pass has 1,023.
+        leaf = Filter.intersects(FIRST, LOW)
+        chain = reduce(Filter.and_, [leaf] * 512)
+        self.assertIs(chain.evaluate_by_position([LOW]), MAY)
+        self.assertIs(chain.evaluate_by_position([HIGH]), CANNOT)
+        self.assertEqual(chain.filter_bbox(40), LOW)
+        right = reduce(lambda chain, leaf: leaf | chain, [leaf] * 512)
+        self.assertIs(right.evaluate_by_name({40: HIGH}), CANNOT)
+        self.assertEqual(right, pickle.loads(pickle.dumps(right)))
+        self.assertEqual(repr(right).count("Filter.intersects"), 512)
+
+    def test_a_hundred_thousand_columns(self):
+        records = [None] * 99_999 + [LOW]
+        for index, answer in [(99_999, CANNOT), (99_998, MAY)]:
+            wanted = Filter.intersects(Column(index, 0), HIGH)
+            self.assertIs(wanted.evaluate_by_position(records), answer)
+
+
+class Refusals(unittest.TestCase):
+    def refused(self, number, call, *arguments):
+        with self.assertRaises(Refusal) as caught:
+            call(*arguments)
+        self.assertEqual(caught.exception.number, number)
+
+    def test_too_many_nodes(self):
+        chain = reduce(Filter.or_, [Filter.unknown()] * 513)
+        self.refused(4, chain.evaluate_by_position, [])
+        self.refused(4, chain.evaluate_by_name, {})
+        self.refused(4, chain.filter_bbox, 0)
+
+    def test_no_column(self):
+        wanted = Filter.intersects(SECOND, LOW)
+        self.refused(10, wanted.evaluate_by_position, [LOW])
+        self.refused(10, Filter.covers(Column(2**32 - 1, 0), LOW).evaluate_by_position, [LOW])
+
+    def test_name_twice(self):
+        self.refused(11, Filter.unknown().evaluate_by_name, [(40, LOW), (41, LOW), (40, LOW)])
+
+    def test_tables(self):
+        literal, flag = [0, 1, 0, 1, 0, 0, 0, 0], [1]
+        cases = [
+            (4, [], literal, flag),
+            (4, [6, 0, 0], literal, flag),
+            (4, [6, 0, 0, 0] * 1025, literal, flag),
+            (5, [7, 0, 0, 0], literal, flag),
+            (6, [2, 0, 0, 0], literal, flag),
+            (7, [3, 0, 0, 0], literal, flag),
+            (7, [6, 0, 0, 0, 3, 0, 1, 0], literal, flag),
+            (7, [6, 0, 0, 0, 3, 0, 0, 0], literal, flag),
+            (7, [6, 0, 0, 0, 6, 0, 0, 0], literal, flag),
+            (8, [6, 0, 0, 0], literal[:7], flag),
+            (8, [6, 0, 0, 0], literal, []),
+            (8, [6, 0, 0, 0], literal, [0]),
+            (8, [6, 0, 0, 0], literal, [2]),
+            (8, [6, 0, 0, 0], literal, [8]),
+            (9, [0, 0, 40, 1], literal, flag),
+            (9, [1, 0, 40, 2**32 - 1], literal, flag),
+        ]
+        for number, nodes, literals, flags in cases:
+            with self.subTest(number=number, nodes=nodes[:8]):
+                tables = Tables(array("I", nodes), array("d", literals), array("B", flags))
+                self.refused(number, tables.evaluate, array("d", literal), array("B", flag))
+                self.refused(
+                    number, tables.evaluate, array("d", literal), array("B", flag), array("I", [40])
+                )
+                self.refused(number, tables.filter_bbox, 40)
+
+    def test_records_that_do_not_fit(self):
+        tables = Filter.unknown().compile()
+        box = array("d", [0, 1, 0, 1, 0, 0, 0, 0])
+        self.refused(8, tables.evaluate, box, b"")
+        self.refused(8, tables.evaluate, box[:7], b"\1")
+        self.refused(8, tables.evaluate, box, b"\2")
+        self.refused(8, tables.evaluate, box, b"\1", array("I"))
+        self.refused(8, tables.evaluate, box, b"\1", array("I", [1, 2]))
+        # A record without a box has the flag 0, and its doubles are there still.
+        self.assertIs(tables.evaluate(box, b"\0"), MAY)
+
+    def test_every_number_has_its_sentence(self):
+        for number in (1, 3, 4, 5, 6, 7, 8, 9, 10, 11):
+            self.assertRegex(str(Refusal(number)), rf"^refused by {number}: [a-z]")
+            self.assertNotIn("does not know", Refusal(number).sentence)
+        self.assertIn("does not know", str(Refusal(99)))
+
+
+class Arguments(unittest.TestCase):
+    def test_columns(self):
+        for index, name in [(-1, 0), (2**32, 0), (0, -1), (0, 2**32)]:
+            with self.assertRaisesRegex(OverflowError, "must lie between 0 and 4294967295"):
+                Column(index, name)
+        with self.assertRaisesRegex(TypeError, "name must be a whole number, not str"):
+            Column(0, "degrees")
+
+    def test_names(self):
+        wanted = Filter.unknown()
+        with self.assertRaisesRegex(OverflowError, "a name number must lie between"):
+            wanted.evaluate_by_name({-1: LOW})
+        with self.assertRaisesRegex(OverflowError, "name must lie between"):
+            wanted.filter_bbox(2**32)
+
+    def test_records(self):
+        for bad in ([1], [(0, 1, 0, 1)], {40: LOW}):
+            with self.assertRaisesRegex(TypeError, "a record must be GeoStatistics, BoundingBox"):
+                Filter.unknown().evaluate_by_position(bad)
+
+    def test_leaves(self):
+        with self.assertRaisesRegex(TypeError, "column must be a Column, not int"):
+            Filter.intersects(0, LOW)
+        with self.assertRaisesRegex(TypeError, "bbox must be a BoundingBox, not tuple"):
+            Filter.covers(FIRST, (0, 1, 0, 1))
+        with self.assertRaises(TypeError):
+            Filter()
+
+    def test_joined_by_words(self):
+        a, b = Filter.unknown(), Filter.literal_false()
+        with self.assertRaisesRegex(TypeError, "join filters by & and"):
+            a or b
+        with self.assertRaisesRegex(TypeError, "join filters by & and"):
+            not a
+        with self.assertRaisesRegex(TypeError, "joined with a Filter, not bool"):
+            a & True
+
+    def test_compiled_tables_are_read_only(self):
+        tables = Filter.intersects(FIRST, LOW).compile()
+        with self.assertRaises(TypeError):
+            tables.nodes[0] = 5
+
+
+if __name__ == "__main__":
+    unittest.main()

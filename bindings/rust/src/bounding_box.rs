@@ -1,0 +1,137 @@
+//! Boxes over x, y, z and m.
+
+use crate::ffi;
+use crate::interval::{Interval, WraparoundInterval};
+use crate::layout::Ends;
+use crate::refusal::Refusal;
+
+/// A box: an x that may wrap around, a y, and a z and an m that may be missing.
+///
+/// Missing means that nothing is known, so it rules nothing out. It is never the same as empty.
+///
+/// ```
+/// use johikape::BoundingBox;
+///
+/// let pile = BoundingBox::xy((10.0, 20.0), (38.0, 46.0));
+/// let probe = BoundingBox::xy((14.0, 17.0), (41.0, 43.0)).with_m((49.0, 63.5));
+/// assert!(pile.contains(&probe));
+/// assert!(!pile.with_m((70.0, 80.0)).intersects(&probe));
+/// ```
+#[derive(Clone, Copy, Debug, PartialEq)]
+pub struct BoundingBox {
+    /// The x.
+    pub x: WraparoundInterval,
+    /// The y.
+    pub y: Interval,
+    /// The z, or `None` where nothing is known of it.
+    pub z: Option<Interval>,
+    /// The m, or `None` where nothing is known of it.
+    pub m: Option<Interval>,
+}
+
+impl BoundingBox {
+    /// A box of which z and m are not known. Intervals may be given as pairs, `(low, high)`.
+    pub fn xy(x: impl Into<WraparoundInterval>, y: impl Into<Interval>) -> BoundingBox {
+        BoundingBox {
+            x: x.into(),
+            y: y.into(),
+            z: None,
+            m: None,
+        }
+    }
+
+    /// The same box with this z.
+    #[must_use]
+    pub fn with_z(self, z: impl Into<Interval>) -> BoundingBox {
+        BoundingBox {
+            z: Some(z.into()),
+            ..self
+        }
+    }
+
+    /// The same box with this m.
+    #[must_use]
+    pub fn with_m(self, m: impl Into<Interval>) -> BoundingBox {
+        BoundingBox {
+            m: Some(m.into()),
+            ..self
+        }
+    }
+
+    /// A box of empty x and y, of which z and m are not known.
+    pub const fn empty() -> BoundingBox {
+        BoundingBox {
+            x: WraparoundInterval::empty(),
+            y: Interval::empty(),
+            z: None,
+            m: None,
+        }
+    }
+
+    /// Whether x or y is empty.
+    pub fn is_empty(&self) -> bool {
+        self.x.is_empty() || self.y.is_empty()
+    }
+
+    /// Whether the boxes intersect. z and m are tested only where both boxes know them.
+    pub fn intersects(&self, other: &BoundingBox) -> bool {
+        ffi::box_intersects(&Ends::of(self), &Ends::of(other))
+    }
+
+    /// Whether this box contains the other. z and m are tested only where both boxes know them.
+    pub fn contains(&self, other: &BoundingBox) -> bool {
+        ffi::box_contains(&Ends::of(self), &Ends::of(other))
+    }
+
+    /// A box around both. z and m stay known only where both boxes know them.
+    ///
+    /// ```
+    /// # use johikape::BoundingBox;
+    /// let known = BoundingBox::xy((0.0, 1.0), (0.0, 1.0)).with_z((2.0, 3.0)).with_m((4.0, 5.0));
+    /// let other = BoundingBox::xy((4.0, 5.0), (0.0, 3.0)).with_z((1.0, 2.0));
+    /// assert_eq!(
+    ///     known.merge(&other),
+    ///     BoundingBox::xy((0.0, 5.0), (0.0, 3.0)).with_z((1.0, 3.0))
+    /// );
+    /// ```
+    #[must_use]
+    pub fn merge(&self, other: &BoundingBox) -> BoundingBox {
+        ffi::box_merge(Ends::of(self), &Ends::of(other)).bounding_box()
+    }
+
+    /// What both hold. z and m stay known only where both boxes know them.
+    ///
+    /// # Errors
+    ///
+    /// [`Refusal::TwoParts`] where the intersection of the two x has two parts.
+    ///
+    /// ```
+    /// # use johikape::{BoundingBox, Refusal};
+    /// let plain = BoundingBox::xy((0.0, 30.0), (0.0, 5.0));
+    /// let apart = BoundingBox::xy((20.0, -5.0), (3.0, 9.0));
+    /// let both = BoundingBox::xy((20.0, 5.0), (3.0, 9.0));
+    /// assert_eq!(plain.intersection(&apart)?, BoundingBox::xy((20.0, 30.0), (3.0, 5.0)));
+    /// assert_eq!(plain.intersection(&both), Err(Refusal::TwoParts));
+    /// # Ok::<(), Refusal>(())
+    /// ```
+    pub fn intersection(&self, other: &BoundingBox) -> Result<BoundingBox, Refusal> {
+        let met = ffi::box_intersection(Ends::of(self), &Ends::of(other))?;
+        Ok(met.bounding_box())
+    }
+
+    /// x and y moved outward, as in [`WraparoundInterval::expand_by`] and [`Interval::expand_by`];
+    /// z and m stay.
+    ///
+    /// ```
+    /// # use johikape::BoundingBox;
+    /// let strip = BoundingBox::xy((20.0, 10.0), (0.0, 1.0)).with_z((2.0, 3.0));
+    /// assert_eq!(
+    ///     strip.expand_by(4.0),
+    ///     BoundingBox::xy((16.0, 14.0), (-4.0, 5.0)).with_z((2.0, 3.0))
+    /// );
+    /// ```
+    #[must_use]
+    pub fn expand_by(&self, distance: f64) -> BoundingBox {
+        ffi::box_expand_by(Ends::of(self), distance).bounding_box()
+    }
+}

@@ -1,0 +1,138 @@
+//! Every call of boxes.
+
+use johikape::{BoundingBox, Interval, Refusal, WraparoundInterval};
+
+const NAN: f64 = f64::NAN;
+
+/// x and y from 0 to 10.
+fn square() -> BoundingBox {
+    BoundingBox::xy((0.0, 10.0), (0.0, 10.0))
+}
+
+#[test]
+fn a_box_is_made_of_its_intervals() {
+    let bbox = BoundingBox {
+        x: WraparoundInterval::new(170.0, -170.0),
+        y: Interval::new(1.0, 2.0),
+        z: Some(Interval::new(3.0, 4.0)),
+        m: None,
+    };
+    assert_eq!(
+        bbox,
+        BoundingBox::xy((170.0, -170.0), (1.0, 2.0)).with_z((3.0, 4.0))
+    );
+}
+
+#[test]
+fn a_box_is_empty_by_its_x_or_its_y() {
+    let nothing = (f64::INFINITY, f64::NEG_INFINITY);
+    assert!(BoundingBox::empty().is_empty());
+    assert!(BoundingBox::xy(nothing, (0.0, 1.0)).is_empty());
+    assert!(BoundingBox::xy((0.0, 1.0), nothing).is_empty());
+    assert!(!square().with_z(nothing).is_empty());
+}
+
+#[test]
+fn boxes_intersect_in_x_and_in_y() {
+    assert!(square().intersects(&BoundingBox::xy((10.0, 20.0), (5.0, 6.0))));
+    assert!(!square().intersects(&BoundingBox::xy((11.0, 20.0), (5.0, 6.0))));
+    assert!(!square().intersects(&BoundingBox::xy((5.0, 6.0), (11.0, 20.0))));
+    assert!(square().intersects(&BoundingBox::xy((170.0, 5.0), (5.0, 6.0))));
+    assert!(!square().intersects(&BoundingBox::empty()));
+}
+
+#[test]
+fn z_and_m_are_tested_only_where_both_boxes_know_them() {
+    let low = square().with_z((0.0, 1.0)).with_m((0.0, 1.0));
+    assert!(!low.intersects(&square().with_z((2.0, 3.0))));
+    assert!(!low.intersects(&square().with_m((2.0, 3.0))));
+    assert!(low.intersects(&square()));
+    assert!(square().intersects(&low));
+    assert!(!low.contains(&square().with_z((0.5, 1.5))));
+    assert!(!low.contains(&square().with_m((0.5, 1.5))));
+    assert!(low.contains(&square()));
+    assert!(square().contains(&low));
+}
+
+#[test]
+fn missing_is_not_empty() {
+    let no_depth = square().with_z(Interval::empty());
+    let deep = square().with_z((0.0, 1.0));
+    assert!(!no_depth.intersects(&deep));
+    assert!(square().intersects(&deep));
+}
+
+#[test]
+fn a_box_contains_by_both_ends() {
+    assert!(square().contains(&square()));
+    assert!(square().contains(&BoundingBox::xy((1.0, 9.0), (1.0, 9.0))));
+    assert!(!square().contains(&BoundingBox::xy((1.0, 11.0), (1.0, 9.0))));
+    assert!(!square().contains(&BoundingBox::xy((1.0, 9.0), (-1.0, 9.0))));
+}
+
+#[test]
+fn a_wrapped_x_contains_by_its_left_piece_alone() {
+    let strip = BoundingBox::xy((170.0, -170.0), (0.0, 1.0));
+    assert!(strip.contains(&BoundingBox::xy((-178.0, -175.0), (0.0, 1.0))));
+    assert!(!strip.contains(&BoundingBox::xy((175.0, 178.0), (0.0, 1.0))));
+}
+
+#[test]
+fn merging_keeps_z_and_m_only_where_both_know_them() {
+    let a = square().with_z((0.0, 1.0)).with_m((5.0, 6.0));
+    let b = BoundingBox::xy((20.0, 30.0), (-5.0, 5.0)).with_m((1.0, 2.0));
+    let around = BoundingBox::xy((0.0, 30.0), (-5.0, 10.0)).with_m((1.0, 6.0));
+    assert_eq!(a.merge(&b), around);
+    assert_eq!(b.merge(&a), around);
+}
+
+#[test]
+fn merging_a_wrapped_x() {
+    let strip = BoundingBox::xy((170.0, -170.0), (0.0, 1.0));
+    let middle = BoundingBox::xy((-100.0, 100.0), (0.0, 1.0));
+    assert_eq!(
+        strip.merge(&middle),
+        BoundingBox::xy((-100.0, -170.0), (0.0, 1.0))
+    );
+}
+
+#[test]
+fn the_intersection_keeps_z_and_m_only_where_both_know_them() {
+    let a = square().with_z((0.0, 2.0)).with_m((5.0, 6.0));
+    let b = BoundingBox::xy((5.0, 20.0), (-5.0, 5.0)).with_z((1.0, 9.0));
+    assert_eq!(
+        a.intersection(&b),
+        Ok(BoundingBox::xy((5.0, 10.0), (0.0, 5.0)).with_z((1.0, 2.0)))
+    );
+}
+
+#[test]
+fn the_intersection_is_refused_where_x_has_two_parts() {
+    let plain = BoundingBox::xy((0.0, 30.0), (0.0, 1.0));
+    let wrapped = BoundingBox::xy((20.0, 5.0), (0.0, 1.0));
+    assert_eq!(plain.intersection(&wrapped), Err(Refusal::TwoParts));
+    assert_eq!(wrapped.intersection(&plain), Err(Refusal::TwoParts));
+}
+
+#[test]
+fn expanding_leaves_z_and_m() {
+    let strip = BoundingBox::xy((20.0, 10.0), (0.0, 1.0))
+        .with_z((2.0, 3.0))
+        .with_m((4.0, 5.0));
+    assert_eq!(
+        strip.expand_by(4.0),
+        BoundingBox::xy((16.0, 14.0), (-4.0, 5.0))
+            .with_z((2.0, 3.0))
+            .with_m((4.0, 5.0))
+    );
+    assert_eq!(strip.expand_by(-1.0), strip);
+    assert_eq!(strip.expand_by(NAN), strip);
+}
+
+#[test]
+fn nan_ends_meet_nothing_and_are_passed_over_by_a_merge() {
+    let unsure = BoundingBox::xy((NAN, 5.0), (0.0, 10.0));
+    assert!(!square().intersects(&unsure));
+    assert!(!square().contains(&unsure));
+    assert_eq!(square().merge(&unsure), square());
+}

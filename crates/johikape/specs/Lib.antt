@@ -1,0 +1,4 @@
+pub mod Boxes
+pub mod Filters
+pub mod Intervals
+pub mod Records

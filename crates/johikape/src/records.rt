@@ -1,0 +1,394 @@
+// Records as ten doubles (the eight of the box, the two lengths), seven totals, a type set, and flags:
+// 1, 2, 4 of the box, 8 types, 16 to 1,024 the totals, 2,048 and 4,096 the lengths.
+ghost use mathlib.Core.Path.{_≡_};
+ghost use mathlib.Core.List.{_∷_, []};
+ghost use Prim.Native.Nat.{_≤_, _<_, _+_, _*_};
+ghost use lib.ListN.{length, drop, getD};
+ghost use Rattle.sedona_expr.specs.Error as error;
+ghost use Rattle.sedona_expr.specs.Statistics as statistics;
+ghost use Rattle.sedona_expr.specs.Refusals as refusals;
+ghost use Rattle.johikape.specs.Records as records;
+use crate::boxes::high;
+use crate::boxes::known;
+use crate::boxes::low;
+use sedona_expr::error::BOXES;
+use sedona_expr::refusals::is_good_flag;
+use sedona_expr::statistics::Bbox;
+use sedona_expr::statistics::Extent;
+use sedona_expr::statistics::Folded;
+use sedona_expr::statistics::GeoStatistics;
+use sedona_expr::statistics::GeometryTypes;
+use sedona_expr::statistics::Merged;
+use sedona_expr::statistics::Total;
+use sedona_expr::tables::box_at;
+use sedona_geometry::bounding_box::BoundingBox;
+use sedona_geometry::interval::Interval;
+use sedona_geometry::interval::WraparoundInterval;
+use sedona_geometry::types::GeometryTypeAndDimensionsSet;
+
+pub type Doubles = [f64; 10];
+
+pub type Totals = [i64; 7];
+
+// ---- from C
+
+fn types_of(known: bool, bits: u32) -> GeometryTypes
+    ensures { λ r. ⌜ r ≡ records.typesOf known bits ⌝ }
+{
+    if known {
+        return GeometryTypes::Known(GeometryTypeAndDimensionsSet::from_bits(bits));
+    }
+    GeometryTypes::Missing
+}
+
+fn total_of(known: bool, n: i64) -> Total
+    ensures { λ r. ⌜ r ≡ records.totalOf known n ⌝ }
+{
+    if known {
+        return Total::Known(n);
+    }
+    Total::Missing
+}
+
+fn extent_of(known: bool, x: f64) -> Extent
+    ensures { λ r. ⌜ r ≡ records.extentOf known x ⌝ }
+{
+    if known {
+        return Extent::Known(x);
+    }
+    Extent::Missing
+}
+
+// The record of ten doubles, seven totals, a type set and flags.
+fn read(doubles: &[f64], totals: &[i64], types: u32, flags: u32) -> GeoStatistics
+    requires { ⌜ (10 ≤ length (now doubles)) × (7 ≤ length (now totals)) ⌝ }
+    ensures { λ r. ⌜ r ≡ records.read (now (doubles .entry)) (now (totals .entry)) types flags ⌝ }
+{
+    GeoStatistics {
+        bbox: box_at(doubles, &[(flags % 8) as u8], 0),
+        geometry_types: types_of(flags / 8 % 2 == 1, types),
+        total_geometries: total_of(flags / 16 % 2 == 1, totals[0]),
+        total_size_bytes: total_of(flags / 32 % 2 == 1, totals[1]),
+        total_points: total_of(flags / 64 % 2 == 1, totals[2]),
+        puntal_count: total_of(flags / 128 % 2 == 1, totals[3]),
+        lineal_count: total_of(flags / 256 % 2 == 1, totals[4]),
+        polygonal_count: total_of(flags / 512 % 2 == 1, totals[5]),
+        collection_count: total_of(flags / 1024 % 2 == 1, totals[6]),
+        total_envelope_width: extent_of(flags / 2048 % 2 == 1, doubles[8]),
+        total_envelope_height: extent_of(flags / 4096 % 2 == 1, doubles[9]),
+    }
+}
+
+// No flags but those above, and of the box 0, 1, 3, 5 or 7.
+fn are_good(flags: u32) -> bool
+    ensures { λ r. ⌜ r ≡ records.goodFlags flags ⌝ }
+{
+    if flags >= 8192 {
+        return false;
+    }
+    is_good_flag(true, (flags % 8) as u8)
+}
+
+// ---- to C
+
+// The box, and zeros for none.
+fn or_zero(b: Bbox) -> BoundingBox
+    ensures { λ r. ⌜ r ≡ records.orZero b ⌝ }
+{
+    match b {
+        Bbox::Missing => BoundingBox::xy(
+            WraparoundInterval::new(0.0, 0.0),
+            Interval::new(0.0, 0.0),
+        ),
+        Bbox::Known(bounds) => bounds,
+    }
+}
+
+fn extent(e: Extent) -> f64
+    ensures { λ r. ⌜ r ≡ records.extent e ⌝ }
+{
+    match e {
+        Extent::Missing => 0.0,
+        Extent::Known(x) => x,
+    }
+}
+
+fn total(t: Total) -> i64
+    ensures { λ r. ⌜ r ≡ records.total t ⌝ }
+{
+    match t {
+        Total::Missing => 0,
+        Total::Known(n) => n,
+    }
+}
+
+fn bits(t: GeometryTypes) -> u32
+    ensures { λ r. ⌜ r ≡ records.types t ⌝ }
+{
+    match t {
+        GeometryTypes::Missing => 0,
+        GeometryTypes::Known(s) => s.bits(),
+    }
+}
+
+// The flags of a box, and 0 for none.
+fn bbox_flag(b: Bbox) -> u32
+    ensures { λ r. ⌜ (r ≡ records.bboxFlag b) × (r ≤ 7) ⌝ }
+{
+    match b {
+        Bbox::Missing => 0,
+        Bbox::Known(bounds) => {
+            let z = bounds.z;
+            let m = bounds.m;
+            (1 + known(z, 2) + known(m, 4)) as u32
+        }
+    }
+}
+
+// A flag, where the part is known.
+fn types_flag(t: GeometryTypes, flag: u32) -> u32
+    ensures { λ r. ⌜ (r ≡ records.typesFlag t flag) × (r ≤ flag) ⌝ }
+{
+    match t {
+        GeometryTypes::Missing => 0,
+        GeometryTypes::Known(_) => flag,
+    }
+}
+
+fn total_flag(t: Total, flag: u32) -> u32
+    ensures { λ r. ⌜ (r ≡ records.totalFlag t flag) × (r ≤ flag) ⌝ }
+{
+    match t {
+        Total::Missing => 0,
+        Total::Known(_) => flag,
+    }
+}
+
+fn extent_flag(e: Extent, flag: u32) -> u32
+    ensures { λ r. ⌜ (r ≡ records.extentFlag e flag) × (r ≤ flag) ⌝ }
+{
+    match e {
+        Extent::Missing => 0,
+        Extent::Known(_) => flag,
+    }
+}
+
+fn totals_flags(r: GeoStatistics) -> u32
+    ensures { λ n. ⌜ (n ≡ records.totalsFlags r) × (n ≤ 2032) ⌝ }
+{
+    let t0 = r.total_geometries;
+    let t1 = r.total_size_bytes;
+    let t2 = r.total_points;
+    let t3 = r.puntal_count;
+    let t4 = r.lineal_count;
+    let t5 = r.polygonal_count;
+    let t6 = r.collection_count;
+    total_flag(t0, 16)
+        + total_flag(t1, 32)
+        + total_flag(t2, 64)
+        + total_flag(t3, 128)
+        + total_flag(t4, 256)
+        + total_flag(t5, 512)
+        + total_flag(t6, 1024)
+}
+
+fn flags_of(r: GeoStatistics) -> u32
+    ensures { λ n. ⌜ n ≡ records.flags r ⌝ }
+{
+    let b = r.bbox;
+    let t = r.geometry_types;
+    let width = r.total_envelope_width;
+    let height = r.total_envelope_height;
+    bbox_flag(b)
+        + types_flag(t, 8)
+        + totals_flags(r)
+        + extent_flag(width, 2048)
+        + extent_flag(height, 4096)
+}
+
+fn put_doubles(doubles: &mut Doubles, r: GeoStatistics)
+    ensures { λ _. ⌜ now (doubles .exit) ≡ records.doubles r ⌝ }
+{
+    let width = r.total_envelope_width;
+    let height = r.total_envelope_height;
+    let bbox = r.bbox;
+    let b = or_zero(bbox);
+    let x = b.x.inner;
+    let y = b.y;
+    let z = b.z;
+    let m = b.m;
+    *doubles = [
+        x.lo,
+        x.hi,
+        y.lo,
+        y.hi,
+        low(z),
+        high(z),
+        low(m),
+        high(m),
+        extent(width),
+        extent(height),
+    ];
+}
+
+fn put_totals(totals: &mut Totals, r: GeoStatistics)
+    ensures { λ _. ⌜ now (totals .exit) ≡ records.totals r ⌝ }
+{
+    let t0 = r.total_geometries;
+    let t1 = r.total_size_bytes;
+    let t2 = r.total_points;
+    let t3 = r.puntal_count;
+    let t4 = r.lineal_count;
+    let t5 = r.polygonal_count;
+    let t6 = r.collection_count;
+    *totals = [
+        total(t0),
+        total(t1),
+        total(t2),
+        total(t3),
+        total(t4),
+        total(t5),
+        total(t6),
+    ];
+}
+
+// Puts the record, where the number is 0, and answers the number.
+fn put_record(
+    doubles: &mut Doubles,
+    totals: &mut Totals,
+    types: &mut u32,
+    flags: &mut u32,
+    a: Merged,
+) -> u32
+    ensures { λ r. ⌜ records.Gives a r (records.parts (now (doubles .entry)) (now (totals .entry)) (now (types .entry)) (now (flags .entry))) (records.parts (now (doubles .exit)) (now (totals .exit)) (now (types .exit)) (now (flags .exit))) ⌝ }
+{
+    if a.number != 0 {
+        return a.number;
+    }
+    let r = a.rec;
+    put_doubles(doubles, r);
+    put_totals(totals, r);
+    let t = r.geometry_types;
+    *types = bits(t);
+    *flags = flags_of(r);
+    0
+}
+
+// ---- the calls
+
+// Merges another record into the lent one.
+#[no_mangle]
+pub extern "C" fn johikape_merge(
+    doubles: &mut Doubles,
+    totals: &mut Totals,
+    types: &mut u32,
+    flags: &mut u32,
+    other_doubles: &Doubles,
+    other_totals: &Totals,
+    other_types: u32,
+    other_flags: u32,
+) -> u32
+    ensures { λ r. ⌜ records.Gives (records.merged (records.parts (now (doubles .entry)) (now (totals .entry)) (now (types .entry)) (now (flags .entry))) (records.parts (now («other_doubles» .entry)) (now («other_totals» .entry)) «other_types» «other_flags»)) r (records.parts (now (doubles .entry)) (now (totals .entry)) (now (types .entry)) (now (flags .entry))) (records.parts (now (doubles .exit)) (now (totals .exit)) (now (types .exit)) (now (flags .exit))) ⌝ }
+{
+    if !are_good(*flags) {
+        return BOXES;
+    }
+    if !are_good(other_flags) {
+        return BOXES;
+    }
+    let a = read(doubles, totals, *types, *flags);
+    let b = read(other_doubles, other_totals, other_types, other_flags);
+    put_record(doubles, totals, types, flags, a.merge_value(b))
+}
+
+fn are_all_good(flags: &[u32]) -> bool
+    ensures { λ r. ⌜ r ≡ refusals.all records.goodFlags (now (flags .entry)) ⌝ }
+{
+    let mut i = 0;
+    while i < flags.len() {
+        if !are_good(flags[i]) {
+            return false;
+        }
+        i += 1;
+    }
+    true
+}
+
+// Lengths that do not fit, or bad flags.
+fn lists_refusal(doubles: &[f64], totals: &[i64], types: &[u32], flags: &[u32]) -> u32
+    ensures { λ r. ⌜ r ≡ records.listsRefusal (records.lists (now (doubles .entry)) (now (totals .entry)) (now (types .entry)) (now (flags .entry))) ⌝ }
+{
+    if doubles.len() % 10 != 0 {
+        return BOXES;
+    }
+    if doubles.len() / 10 != flags.len() {
+        return BOXES;
+    }
+    if totals.len() % 7 != 0 {
+        return BOXES;
+    }
+    if totals.len() / 7 != flags.len() {
+        return BOXES;
+    }
+    if types.len() != flags.len() {
+        return BOXES;
+    }
+    if are_all_good(flags) { 0 } else { BOXES }
+}
+
+// The record at a place.
+fn record_at(
+    doubles: &[f64],
+    totals: &[i64],
+    types: &[u32],
+    flags: &[u32],
+    i: usize,
+) -> GeoStatistics
+    requires { ⌜ (10 * i + 10 ≤ length (now doubles)) × ((7 * i + 7 ≤ length (now totals)) × ((i < length (now types)) × (i < length (now flags)))) ⌝ }
+    ensures { λ r. ⌜ r ≡ records.at (records.lists (now (doubles .entry)) (now (totals .entry)) (now (types .entry)) (now (flags .entry))) i ⌝ }
+{
+    let d = 10 * i;
+    let t = 7 * i;
+    read(&doubles[d..], &totals[t..], types[i], flags[i])
+}
+
+// The fold of lists that fit.
+fn fold_lists(doubles: &[f64], totals: &[i64], types: &[u32], flags: &[u32]) -> Folded
+    requires { ⌜ (length (now doubles) ≡ length (now flags) * 10) × ((length (now totals) ≡ length (now flags) * 7) × (length (now types) ≡ length (now flags))) ⌝ }
+    ensures { λ r. ⌜ r ≡ statistics.fold (records.records (records.lists (now (doubles .entry)) (now (totals .entry)) (now (types .entry)) (now (flags .entry)))) ⌝ }
+{
+    let mut acc = Folded::start();
+    let mut i = 0;
+    while i < flags.len() {
+        acc = acc.step(record_at(doubles, totals, types, flags, i));
+        i += 1;
+    }
+    acc
+}
+
+// Folds the records of the lists, in their order.
+#[no_mangle]
+pub extern "C" fn johikape_fold(
+    doubles: &[f64],
+    totals: &[i64],
+    types: &[u32],
+    flags: &[u32],
+    out_doubles: &mut Doubles,
+    out_totals: &mut Totals,
+    out_types: &mut u32,
+    out_flags: &mut u32,
+) -> u32
+    ensures { λ r. ⌜ records.Gives (records.folded (records.lists (now (doubles .entry)) (now (totals .entry)) (now (types .entry)) (now (flags .entry)))) r (records.parts (now («out_doubles» .entry)) (now («out_totals» .entry)) (now («out_types» .entry)) (now («out_flags» .entry))) (records.parts (now («out_doubles» .exit)) (now («out_totals» .exit)) (now («out_types» .exit)) (now («out_flags» .exit))) ⌝ }
+{
+    let number = lists_refusal(doubles, totals, types, flags);
+    if number != 0 {
+        return number;
+    }
+    let out = fold_lists(doubles, totals, types, flags);
+    let rec = out.rec;
+    let merged = Merged {
+        number: out.number,
+        rec,
+    };
+    put_record(out_doubles, out_totals, out_types, out_flags, merged)
+}
