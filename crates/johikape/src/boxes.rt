@@ -71,6 +71,7 @@ pub(crate) fn put_box(ends: &mut Ends, flag: &mut u8, a: NumberedBox) -> u32
     0
 }
 
+// Whether two boxes intersect: 0 or 1, or 8 where flags are bad.
 #[no_mangle]
 pub extern "C" fn johikape_box_intersects(a: &Ends, a_flag: u8, b: &Ends, b_flag: u8) -> u32
     ensures { λ r. ⌜ r ≡ boxes.test boundingBox.intersects (boxes.read (now (a .entry)) «a_flag») (boxes.read (now (b .entry)) «b_flag») ⌝ }
@@ -87,6 +88,7 @@ pub extern "C" fn johikape_box_intersects(a: &Ends, a_flag: u8, b: &Ends, b_flag
     NO
 }
 
+// Whether the first box contains the second, in the same way.
 #[no_mangle]
 pub extern "C" fn johikape_box_contains(a: &Ends, a_flag: u8, b: &Ends, b_flag: u8) -> u32
     ensures { λ r. ⌜ r ≡ boxes.test boundingBox.contains (boxes.read (now (a .entry)) «a_flag») (boxes.read (now (b .entry)) «b_flag») ⌝ }
@@ -116,6 +118,7 @@ fn merged(a: Bbox, b: Bbox) -> NumberedBox
     NumberedBox::accepted(first.merge_box(second))
 }
 
+// The first box becomes one around both; 0, or 8.
 #[no_mangle]
 pub extern "C" fn johikape_box_merge(a: &mut Ends, a_flag: &mut u8, b: &Ends, b_flag: u8) -> u32
     ensures { λ r. ⌜ boxes.Gives (boxes.merged (boxes.read (now (a .entry)) (now («a_flag» .entry))) (boxes.read (now (b .entry)) «b_flag»)) r (now (a .entry)) (now (a .exit)) (now («a_flag» .entry)) (now («a_flag» .exit)) ⌝ }
@@ -138,6 +141,7 @@ fn met(a: Bbox, b: Bbox) -> NumberedBox
     first.intersection(second)
 }
 
+// The first box becomes what both hold; 0, or 1 where x has two parts, or 8.
 #[no_mangle]
 pub extern "C" fn johikape_box_intersection(
     a: &mut Ends,
@@ -162,6 +166,7 @@ fn expanded(a: Bbox, distance: f64) -> NumberedBox
     NumberedBox::accepted(first.expand_by(distance))
 }
 
+// The box is moved outward in x and y; 0, or 8.
 #[no_mangle]
 pub extern "C" fn johikape_box_expand_by(a: &mut Ends, a_flag: &mut u8, distance: f64) -> u32
     ensures { λ r. ⌜ boxes.Gives (boxes.expanded (boxes.read (now (a .entry)) (now («a_flag» .entry))) distance) r (now (a .entry)) (now (a .exit)) (now («a_flag» .entry)) (now («a_flag» .exit)) ⌝ }

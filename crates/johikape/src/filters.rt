@@ -22,6 +22,7 @@ fn code(e: Evaluation) -> u32
     }
 }
 
+// Whether a file may match, a leaf's index picking its record.
 #[no_mangle]
 pub extern "C" fn johikape_evaluate_by_position(
     nodes: &[u32],
@@ -35,6 +36,7 @@ pub extern "C" fn johikape_evaluate_by_position(
     code(evaluate_by_position(nodes, literals, literal_flags, records, record_flags))
 }
 
+// The same, a leaf's name picking its record.
 #[no_mangle]
 pub extern "C" fn johikape_evaluate_by_name(
     nodes: &[u32],
@@ -49,6 +51,7 @@ pub extern "C" fn johikape_evaluate_by_name(
     code(evaluate_by_name(nodes, literals, literal_flags, records, record_flags, names))
 }
 
+// The filter's box in the column of a name, into `ends` and `flag`; its number.
 #[no_mangle]
 pub extern "C" fn johikape_filter_bbox(
     nodes: &[u32],
