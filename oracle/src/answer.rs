@@ -1,12 +1,12 @@
 //! What a call answers, as text and as the words of a digest.
 
+use crate::bounding_box::BoundingBox;
+use crate::interval::{Interval, IntervalTrait, WraparoundInterval};
 use crate::operands::{Kind, MISSING};
 use crate::records::{EXTENTS, LEAVES_RANGE, TOTALS};
+use crate::statistics::GeoStatistics;
 use crate::text;
-use oracle::bounding_box::BoundingBox;
-use oracle::interval::{Interval, IntervalTrait, WraparoundInterval};
-use oracle::statistics::GeoStatistics;
-use oracle::types::GeometryTypeAndDimensionsSet;
+use crate::types::GeometryTypeAndDimensionsSet;
 use std::fmt;
 
 /// An answer is a list of parts.

@@ -1,13 +1,13 @@
 //! The table of calls: the names of the case language, and the lent Rust that answers them.
 
 use crate::answer::{Answer, Digest};
+use crate::bounding_box::BoundingBox;
 use crate::draws;
+use crate::interval::{Interval, IntervalTrait, WraparoundInterval};
 use crate::operands::{Kind, Lists, Operand, Operands, read};
 use crate::records::{folded, merged};
-use oracle::bounding_box::BoundingBox;
-use oracle::interval::{Interval, IntervalTrait, WraparoundInterval};
-use oracle::statistics::GeoStatistics;
-use oracle::types::GeometryTypeAndDimensionsSet as Set;
+use crate::statistics::GeoStatistics;
+use crate::types::GeometryTypeAndDimensionsSet as Set;
 
 /// The number where the intersection of two x has two parts.
 const TWO_PARTS: u64 = 1;

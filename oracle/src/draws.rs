@@ -1,10 +1,10 @@
 //! Lists of records drawn from a seed, the same as the replay program draws.
 
+use crate::bounding_box::BoundingBox;
+use crate::interval::{Interval, IntervalTrait, WraparoundInterval};
 use crate::records::{WITH_EXTENT, WITH_TOTAL};
-use oracle::bounding_box::BoundingBox;
-use oracle::interval::{Interval, IntervalTrait, WraparoundInterval};
-use oracle::statistics::GeoStatistics;
-use oracle::types::GeometryTypeAndDimensionsSet as Set;
+use crate::statistics::GeoStatistics;
+use crate::types::GeometryTypeAndDimensionsSet as Set;
 use std::array;
 
 const INF: f64 = f64::INFINITY;

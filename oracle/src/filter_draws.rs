@@ -2,7 +2,7 @@
 
 use crate::draws::Draws;
 use crate::filters::{Boxes, Tables};
-use oracle::interval::IntervalTrait;
+use crate::interval::IntervalTrait;
 
 /// The most boxes of a list.
 const MOST_BOXES: u32 = 6;

@@ -1,14 +1,14 @@
 //! Filters: the tables that lines of a case file set, and what the Rust answers over them.
 
 use crate::answer::{Answer, Digest};
+use crate::bounding_box::BoundingBox;
 use crate::filter_draws::{NAMES, tables};
+use crate::interval::{Interval, IntervalTrait, WraparoundInterval};
 use crate::refusals::check;
+use crate::shims::datafusion_physical_expr::expressions::Column;
+use crate::spatial_filter::{SpatialFilter, TableGeoStatistics};
+use crate::statistics::GeoStatistics;
 use crate::text;
-use oracle::bounding_box::BoundingBox;
-use oracle::interval::{Interval, IntervalTrait, WraparoundInterval};
-use oracle::shims::datafusion_physical_expr::expressions::Column;
-use oracle::spatial_filter::{SpatialFilter, TableGeoStatistics};
-use oracle::statistics::GeoStatistics;
 
 /// The most words of a line, and of a chain: one node more than a filter may have.
 const MOST_WORDS: usize = 48;
@@ -76,16 +76,24 @@ impl Tables {
     }
 
     pub fn evaluate(&self, lookup: Lookup) -> Answer {
-        let answer = check(self, lookup).map(|()| {
-            let answer = self.root().evaluate(&self.statistics(lookup));
-            answer.expect("every index is lent")
-        });
-        Answer::matched(answer)
+        Answer::matched(self.may_match(lookup))
     }
 
     pub fn filter_bbox(&self, name: u32) -> Answer {
-        let answer = check(self, Lookup::Nothing);
-        Answer::boxed(answer.map(|()| self.root().filter_bbox(&name.to_string())))
+        Answer::boxed(self.bounds_of(name))
+    }
+
+    /// Whether the filter may match, or the number that refuses it.
+    pub fn may_match(&self, lookup: Lookup) -> Result<bool, u64> {
+        check(self, lookup)?;
+        let answer = self.root().evaluate(&self.statistics(lookup));
+        Ok(answer.expect("every index is lent"))
+    }
+
+    /// The filter's box for the column of a name, or the number that refuses it.
+    pub fn bounds_of(&self, name: u32) -> Result<BoundingBox, u64> {
+        check(self, Lookup::Nothing)?;
+        Ok(self.root().filter_bbox(&name.to_string()))
     }
 
     fn root(&self) -> SpatialFilter {
@@ -124,14 +132,16 @@ impl Tables {
 
 impl Boxes {
     fn bounds(&self, place: usize) -> BoundingBox {
-        let interval = |k: usize| {
-            let at = 8 * place + 2 * k;
-            Interval::new(self.ends[at], self.ends[at + 1])
-        };
-        let known = |k, bit| (self.flags[place] & bit != 0).then(|| interval(k));
-        let x = WraparoundInterval::new(interval(0).lo(), interval(0).hi());
-        BoundingBox::xyzm(x, interval(1), known(2, 2), known(3, 4))
+        bounds(&self.ends[8 * place..], self.flags[place])
     }
+}
+
+/// The box of the first eight ends; its flags say whether it has z and m.
+pub fn bounds(ends: &[f64], flags: u8) -> BoundingBox {
+    let interval = |k: usize| Interval::new(ends[2 * k], ends[2 * k + 1]);
+    let known = |k, bit| (flags & bit != 0).then(|| interval(k));
+    let x = WraparoundInterval::new(ends[0], ends[1]);
+    BoundingBox::xyzm(x, interval(1), known(2, 2), known(3, 4))
 }
 
 /// The digest of the calls over so many drawn tables, the first drawn from a seed and each other

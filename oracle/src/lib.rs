@@ -1,6 +1,19 @@
-//! The lent Rust files of sedona-db, compiled unchanged, each a module of its name.
+//! The lent Rust files of sedona-db, compiled unchanged, each a module of its name; and what makes
+//! cases and answers them by these files.
 
+pub mod answer;
+pub mod answers;
+pub mod calls;
+pub mod cases;
+pub mod draws;
+pub mod filter_draws;
+pub mod filters;
+pub mod operands;
+pub mod random;
+pub mod records;
+pub mod refusals;
 pub mod shims;
+pub mod text;
 
 // The lent files of sedona-expr name these two as their neighbours.
 use shims::{metadata_preserving_column, utils};

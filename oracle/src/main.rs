@@ -1,18 +1,6 @@
 //! Writes cases for the replay program, and answers them by the lent Rust.
 
-mod answer;
-mod answers;
-mod calls;
-mod cases;
-mod draws;
-mod filter_draws;
-mod filters;
-mod operands;
-mod random;
-mod records;
-mod refusals;
-mod text;
-
+use oracle::{answers, calls, cases, random};
 use std::io::{self, Write};
 use std::{env, process::ExitCode};
 

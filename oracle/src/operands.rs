@@ -1,11 +1,11 @@
 //! What calls take, doubles, boxes, type sets, records and seeds: how a line spells them, and all that
 //! sweeps go over.
 
+use crate::bounding_box::BoundingBox;
+use crate::interval::{Interval, IntervalTrait, WraparoundInterval};
+use crate::statistics::GeoStatistics;
+use crate::types::GeometryTypeAndDimensionsSet as Set;
 use crate::{records, text};
-use oracle::bounding_box::BoundingBox;
-use oracle::interval::{Interval, IntervalTrait, WraparoundInterval};
-use oracle::statistics::GeoStatistics;
-use oracle::types::GeometryTypeAndDimensionsSet as Set;
 
 /// The word for each end of a missing z or m, and for each word of a missing part of a record.
 pub const MISSING: &str = "-";

@@ -11,10 +11,7 @@ const FILTER_CALLS: usize = 3;
 
 /// `count` cases, the same ones for the same seed. Doubles of note are drawn from `values`.
 pub fn cases(calls: &[Call], values: &[f64], seed: u64, count: usize) -> String {
-    let mut random = Random {
-        state: seed,
-        values,
-    };
+    let mut random = Random::new(seed, values);
     let cases = (0..count).map(
         |_| match calls.get(random.below(calls.len() + FILTER_CALLS)) {
             Some(call) => write_line(&call.name, &random.words(&call.operands)),
@@ -24,14 +21,22 @@ pub fn cases(calls: &[Call], values: &[f64], seed: u64, count: usize) -> String 
     cases.collect()
 }
 
-struct Random<'a> {
+/// Draws from a seed; doubles of note are drawn from `values`.
+pub struct Random<'a> {
     state: u64,
     values: &'a [f64],
 }
 
 impl Random<'_> {
+    pub fn new(seed: u64, values: &[f64]) -> Random<'_> {
+        Random {
+            state: seed,
+            values,
+        }
+    }
+
     /// The next 64 bits (splitmix64).
-    fn bits(&mut self) -> u64 {
+    pub fn bits(&mut self) -> u64 {
         self.state = self.state.wrapping_add(0x9e37_79b9_7f4a_7c15);
         let z = self.state;
         let z = (z ^ (z >> 30)).wrapping_mul(0xbf58_476d_1ce4_e5b9);
@@ -39,8 +44,10 @@ impl Random<'_> {
         z ^ (z >> 31)
     }
 
-    fn below(&mut self, bound: usize) -> usize {
-        (self.bits() % bound as u64) as usize
+    pub fn below(&mut self, bound: usize) -> usize {
+        // Far faster than a division.
+        let scaled = u128::from(self.bits()) * bound as u128;
+        (scaled >> 64) as usize
     }
 
     /// The words of operands of these kinds.
@@ -87,8 +94,8 @@ impl Random<'_> {
 
     /// Doubles, two and two shaped as intervals. Of a second operand, which comes behind a `first`
     /// of so many words, half of the intervals are those of the first.
-    fn doubles(&mut self, count: usize, first: usize) -> Vec<f64> {
-        let mut doubles = Vec::new();
+    pub fn doubles(&mut self, count: usize, first: usize) -> Vec<f64> {
+        let mut doubles = Vec::with_capacity(count);
         for _ in 0..count {
             doubles.push(self.double(&doubles));
         }
@@ -162,7 +169,7 @@ impl Random<'_> {
     }
 
     /// A total: a small one, or one near the ends of its range.
-    fn total(&mut self, at_ends: bool) -> i64 {
+    pub fn total(&mut self, at_ends: bool) -> i64 {
         let small = self.below(2001) as i64 - 1000;
         match self.below(24) {
             0..12 if at_ends => [-1, 0, 1][self.below(3)],
@@ -176,7 +183,7 @@ impl Random<'_> {
     }
 
     /// A type set: of any bits, of few, of one or of a list.
-    fn set(&mut self) -> u32 {
+    pub fn set(&mut self) -> u32 {
         let bits = self.bits() as u32;
         match self.below(4) {
             0 => bits,

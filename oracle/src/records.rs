@@ -1,9 +1,9 @@
 //! Records of statistics: how a line spells them, and how the Rust merges and folds them.
 
 use crate::operands::{Kind, MISSING, read_box};
+use crate::statistics::GeoStatistics;
 use crate::text;
-use oracle::statistics::GeoStatistics;
-use oracle::types::GeometryTypeAndDimensionsSet as Set;
+use crate::types::GeometryTypeAndDimensionsSet as Set;
 use std::panic::{self, UnwindSafe};
 
 /// The number where a total leaves its range.

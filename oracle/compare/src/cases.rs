@@ -1,0 +1,242 @@
+//! What calls are made with, drawn from a seed.
+
+use crate::ffi::Interval;
+use crate::layout::{BOX_FLAGS, Bounds, PARTS, Record, Records};
+use oracle::bounding_box::BoundingBox;
+use oracle::cases::VALUES;
+use oracle::filter_draws::{NAMES, tables};
+use oracle::filters::{Boxes, Tables};
+use oracle::random::Random;
+use std::array;
+use std::fmt::Display;
+
+/// The most records of a fold.
+const MOST_RECORDS: usize = 8;
+
+/// Kinds of nodes.
+const AND: u32 = 3;
+const OR: u32 = 4;
+
+/// The doubles of note, and their neighbours one and two bits away. A double itself comes more
+/// often than a neighbour.
+pub fn values() -> Vec<f64> {
+    let near = |value: &f64| {
+        let bits = value.to_bits();
+        [0, 0, 0, -1, 1, -2, 2].map(|by| f64::from_bits(bits.wrapping_add_signed(by)))
+    };
+    VALUES.iter().flat_map(near).collect()
+}
+
+/// All that a call takes. It is shown where the answers differ.
+pub trait Case: Display {
+    fn draw(random: &mut Random) -> Self;
+}
+
+/// For a call of an interval or an x, alone, with a second one or with a value.
+pub struct IntervalCase {
+    pub a: Interval,
+    pub b: Interval,
+    pub value: f64,
+}
+
+impl Case for IntervalCase {
+    fn draw(random: &mut Random) -> Self {
+        let doubles = random.doubles(5, 8);
+        let interval = |at| Interval {
+            lo: doubles[at],
+            hi: doubles[at + 1],
+        };
+        IntervalCase {
+            a: interval(0),
+            b: interval(2),
+            value: doubles[4],
+        }
+    }
+}
+
+/// For a call of a box, with a second one or with a distance.
+pub struct BoxCase {
+    pub a: Bounds,
+    pub b: Bounds,
+    pub distance: f64,
+}
+
+impl BoxCase {
+    /// Both boxes; none where flags are bad.
+    pub fn to_rust(&self) -> Option<(BoundingBox, BoundingBox)> {
+        Some((self.a.to_rust()?, self.b.to_rust()?))
+    }
+}
+
+impl Case for BoxCase {
+    fn draw(random: &mut Random) -> Self {
+        let doubles = random.doubles(17, 8);
+        let [a, b] = array::from_fn(|place| Bounds {
+            ends: array::from_fn(|end| doubles[8 * place + end]),
+            flags: box_flags(random),
+        });
+        BoxCase {
+            a,
+            b,
+            distance: doubles[16],
+        }
+    }
+}
+
+/// Of 32 boxes one has any flags.
+fn box_flags(random: &mut Random) -> u8 {
+    match random.below(32) {
+        0 => random.bits() as u8,
+        n => BOX_FLAGS[n % 4],
+    }
+}
+
+/// For a merge of records.
+pub struct RecordCase {
+    pub a: Record,
+    pub b: Record,
+}
+
+impl Case for RecordCase {
+    fn draw(random: &mut Random) -> Self {
+        let doubles = random.doubles(20, 10);
+        let [a, b] = array::from_fn(|place| record(random, &doubles[10 * place..]));
+        RecordCase { a, b }
+    }
+}
+
+/// A record of drawn doubles. Of eight records one has totals at the ends of their range; of 64
+/// one has any flags, and one a flag too many or too few.
+fn record(random: &mut Random, doubles: &[f64]) -> Record {
+    let is_at_ends = random.below(8) == 0;
+    let missing = random.bits() & random.bits() & random.bits();
+    let box_flags = match random.below(6) {
+        0 => 0,
+        n => BOX_FLAGS[n % 4],
+    };
+    let good = u32::from(box_flags) | PARTS & !missing as u32;
+    Record {
+        doubles: array::from_fn(|place| doubles[place]),
+        totals: array::from_fn(|_| random.total(is_at_ends)),
+        types: random.set(),
+        flags: match random.below(64) {
+            0 => random.bits() as u32,
+            1 => good ^ 1 << random.below(32),
+            _ => good,
+        },
+    }
+}
+
+impl Case for Records {
+    /// Of eight folds one has a list that is too short or too long.
+    fn draw(random: &mut Random) -> Self {
+        let count = random.below(MOST_RECORDS + 1);
+        let doubles = random.doubles(10 * count, 10);
+        let mut records = Records::default();
+        for doubles in doubles.chunks(10) {
+            records.push(&record(random, doubles));
+        }
+        let is_longer = random.below(2) == 0;
+        match random.below(32) {
+            0 => resize(&mut records.doubles, is_longer),
+            1 => resize(&mut records.totals, is_longer),
+            2 => resize(&mut records.types, is_longer),
+            3 => resize(&mut records.flags, is_longer),
+            _ => {}
+        }
+        records
+    }
+}
+
+/// Makes a list one longer or shorter.
+fn resize<T: Default>(list: &mut Vec<T>, is_longer: bool) {
+    if is_longer {
+        list.push(T::default());
+    } else {
+        list.pop();
+    }
+}
+
+/// For a call of a filter: its tables, and a name.
+pub struct FilterCase {
+    pub tables: Tables,
+    pub name: u32,
+}
+
+impl Case for FilterCase {
+    /// The oracle's tables, of which a quarter have faults; a third get doubles of every kind. Of
+    /// four filters one has no And, so that it often may match; of 16 one has a fault of another
+    /// kind; of 256 one is a deep chain, of up to more words than a filter may have.
+    fn draw(random: &mut Random) -> Self {
+        let mut tables = tables(random.bits() as u32);
+        if random.below(3) == 0 {
+            redraw(random, &mut tables);
+        }
+        if random.below(4) == 0 {
+            drop_ands(&mut tables.nodes);
+        }
+        if random.below(16) == 0 {
+            spoil(random, &mut tables);
+        }
+        if random.below(256) == 0 {
+            let fault = random.below(16).saturating_sub(8);
+            let words = 8 * random.below(512) + 4 + fault;
+            tables.set_chain(words).expect("not too many words");
+        }
+        FilterCase {
+            tables,
+            name: random.below(NAMES as usize) as u32,
+        }
+    }
+}
+
+/// Makes each And an Or.
+fn drop_ands(nodes: &mut [u32]) {
+    for kind in nodes.iter_mut().step_by(4) {
+        if *kind == AND {
+            *kind = OR;
+        }
+    }
+}
+
+/// Empties a list, puts any bits into a word, or takes the last column away.
+fn spoil(random: &mut Random, tables: &mut Tables) {
+    match random.below(8) {
+        0 => tables.nodes.clear(),
+        1 => tables.names.clear(),
+        2 => tables.literals = Boxes::default(),
+        3 => {
+            tables.records = Boxes::default();
+            tables.names.clear();
+        }
+        4 | 5 => {
+            let place = random.below(tables.nodes.len());
+            tables.nodes[place] = random.bits() as u32;
+        }
+        _ => drop_column(tables),
+    }
+}
+
+/// Takes the last column from tables, but not from the filter.
+fn drop_column(tables: &mut Tables) {
+    let records = &mut tables.records;
+    records.ends.truncate(records.ends.len().saturating_sub(8));
+    records.flags.pop();
+    tables.names.pop();
+}
+
+/// Draws the doubles of tables anew. The lists stay as long as they were, so that faults stay.
+fn redraw(random: &mut Random, tables: &mut Tables) {
+    let (records, literals) = (&mut tables.records.ends, &mut tables.literals.ends);
+    // A list that was cut has no whole number of boxes.
+    let first = records.len().next_multiple_of(8);
+    let doubles = random.doubles(first + literals.len().next_multiple_of(8), first);
+    let (record_ends, literal_ends) = doubles.split_at(first);
+    replace(records, record_ends);
+    replace(literals, literal_ends);
+}
+
+/// Replaces each of a list by the drawn one in its place.
+fn replace(list: &mut [f64], drawn: &[f64]) {
+    list.copy_from_slice(&drawn[..list.len()]);
+}

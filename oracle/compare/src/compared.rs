@@ -1,0 +1,161 @@
+//! A call of the library beside that of the Rust, and whether what they gave is the same.
+
+use crate::cases::Case;
+use crate::layout::Record;
+use oracle::random::Random;
+use std::panic::{self, AssertUnwindSafe};
+
+/// What the library gave: a number, and what it could write to, before the call and after it. A
+/// value that it returned counts as written.
+pub struct Given {
+    pub number: u32,
+    pub before: Record,
+    pub after: Record,
+}
+
+/// What the Rust gives: a number and what is written; or the number that refuses the call, which
+/// then writes nothing.
+pub type Expected = Result<Answer, u32>;
+
+pub struct Answer {
+    pub number: u32,
+    pub written: Record,
+}
+
+impl Answer {
+    /// A number alone.
+    pub fn number(number: u32) -> Answer {
+        let written = Record::NONE;
+        Answer { number, written }
+    }
+
+    /// The number 0, and what is written.
+    pub fn written(written: impl Into<Record>) -> Answer {
+        Answer {
+            number: 0,
+            written: written.into(),
+        }
+    }
+}
+
+impl From<Answer> for Given {
+    fn from(answer: Answer) -> Given {
+        Given {
+            number: answer.number,
+            before: Record::NONE,
+            after: answer.written,
+        }
+    }
+}
+
+impl Given {
+    /// What a call gave that could write to what it was lent.
+    pub fn lent<T: Into<Record> + Copy>(mut lent: T, call: impl FnOnce(&mut T) -> u32) -> Given {
+        let before = lent.into();
+        let number = call(&mut lent);
+        let after = lent.into();
+        Given {
+            number,
+            before,
+            after,
+        }
+    }
+
+    fn is(&self, expected: &Expected) -> bool {
+        match expected {
+            Ok(answer) => self.number == answer.number && self.after.is_alike(&answer.written),
+            Err(number) => self.number == *number && self.after.is_same(&self.before),
+        }
+    }
+}
+
+/// How the numbers 0 and 1 of a call are called.
+pub type Words = [&'static str; 2];
+
+pub const TEST: Words = ["no", "yes"];
+pub const EVALUATION: Words = ["cannot match", "may match"];
+pub const NUMBER: Words = ["given", "refused 1"];
+
+/// A number that a call gives is below this.
+const NUMBERS: usize = 12;
+
+/// A call by the library and by the Rust, and how often it gave each number.
+pub struct Call<C> {
+    name: &'static str,
+    words: Words,
+    library: Box<dyn Fn(&C) -> Given>,
+    rust: Box<dyn Fn(&C) -> Expected>,
+    counts: [u64; NUMBERS],
+}
+
+impl<C: Case> Call<C> {
+    pub fn new(
+        name: &'static str,
+        words: Words,
+        library: impl Fn(&C) -> Given + 'static,
+        rust: impl Fn(&C) -> Expected + 'static,
+    ) -> Call<C> {
+        Call {
+            name,
+            words,
+            library: Box::new(library),
+            rust: Box::new(rust),
+            counts: [0; NUMBERS],
+        }
+    }
+
+    /// Makes the call; gives the case and both answers as text where these differ.
+    fn compare(&mut self, case: &C) -> Result<(), String> {
+        let given = (self.library)(case);
+        // A panic of the Rust is a difference too, and its case is to be seen.
+        let expected = panic::catch_unwind(AssertUnwindSafe(|| (self.rust)(case)));
+        let rust = match expected {
+            Ok(expected) if given.is(&expected) => {
+                self.counts[given.number as usize] += 1;
+                return Ok(());
+            }
+            Ok(Ok(answer)) => format!("number {}{}", answer.number, answer.written),
+            Ok(Err(number)) => format!("refused {number}{}", given.before),
+            Err(_) => "a panic".to_string(),
+        };
+        let library = format!("number {}{}", given.number, given.after);
+        let name = self.name;
+        Err(format!(
+            "johikape_{name} differs\n{case}\nthe library: {library}\nthe Rust: {rust}"
+        ))
+    }
+
+    /// How often the call was made, and what it gave how often.
+    fn line(&self) -> String {
+        let made: u64 = self.counts.iter().sum();
+        let counts = self.counts.iter().enumerate();
+        let given = counts.filter(|(_, count)| **count > 0);
+        let given = given.map(|(number, count)| match self.words.get(number) {
+            Some(word) => format!("{word} {count}"),
+            None => format!("refused {number} {count}"),
+        });
+        let given = given.collect::<Vec<_>>().join(", ");
+        format!("{:22} {made:>9}: {given}\n", self.name)
+    }
+}
+
+/// Calls that take the same.
+pub trait Group {
+    /// Makes all calls with one drawn case, and gives how many these are; or the first difference.
+    fn compare(&mut self, random: &mut Random) -> Result<u64, String>;
+
+    /// A line for each call.
+    fn table(&self) -> String;
+}
+
+impl<C: Case> Group for Vec<Call<C>> {
+    fn compare(&mut self, random: &mut Random) -> Result<u64, String> {
+        let case = C::draw(random);
+        self.iter_mut().try_for_each(|call| call.compare(&case))?;
+        Ok(self.len() as u64)
+    }
+
+    fn table(&self) -> String {
+        self.iter().map(Call::line).collect()
+    }
+}
