@@ -1,0 +1,198 @@
+//! Rows of filters: may a file match, and the filter's box.
+
+use crate::draws::Draws;
+use crate::layout::{Boxes, Ends, Filter};
+use crate::library;
+use crate::timing::{Bench, Row};
+use oracle::bounding_box::BoundingBox;
+use oracle::interval::{Interval, IntervalTrait};
+use oracle::shims::datafusion_common::Result;
+use oracle::shims::datafusion_physical_expr::expressions::Column;
+use oracle::spatial_filter::{SpatialFilter, TableGeoStatistics};
+use oracle::statistics::GeoStatistics;
+
+pub fn rows(bench: &Bench) {
+    let small = [
+        Query::new(1, 1, &[0]),
+        Query::new(4, 2, &[0, 1]),
+        Query::new(16, 6, &[0, 1, 2, 3, 4, 5]),
+    ];
+    for query in &small {
+        query.time_by_position(bench);
+    }
+    for query in &small {
+        query.time_by_name(bench);
+    }
+    for columns in [10, 100, 900] {
+        Query::new(4, columns, &[0, columns - 1]).time_by_name(bench);
+    }
+    for query in &small[1..] {
+        query.time_filter_bbox(bench);
+    }
+}
+
+/// Files of each answer that a query is asked about.
+const FILES: usize = 10;
+
+/// A filter, on both sides, and files it is asked about: half of them cannot match.
+struct Query {
+    tree: SpatialFilter,
+    filter: Filter,
+    columns: usize,
+    files: Vec<File>,
+}
+
+/// A file's statistics, on both sides.
+struct File {
+    by_position: TableGeoStatistics,
+    by_name: TableGeoStatistics,
+    records: Boxes,
+    names: Vec<u32>,
+}
+
+impl Query {
+    /// A query of so many leaves, for files of so many columns, of which it wants some.
+    fn new(leaves: usize, columns: usize, wanted: &[usize]) -> Query {
+        let tree = tree(leaves, wanted);
+        Query {
+            filter: Filter::of(&tree),
+            files: files(&tree, columns, wanted),
+            tree,
+            columns,
+        }
+    }
+
+    fn nodes(&self) -> String {
+        count(self.filter.nodes.len(), "node")
+    }
+
+    fn row(&self, call: &str) -> Row<'_, File> {
+        let (nodes, columns) = (self.nodes(), count(self.columns, "column"));
+        Row {
+            name: format!("{call}, {nodes}, {columns}"),
+            inputs: &self.files,
+            parts: 1,
+        }
+    }
+
+    fn time_by_position(&self, bench: &Bench) {
+        bench.row(
+            self.row("evaluate by position"),
+            |file| self.tree.evaluate(&file.by_position),
+            answer,
+            |file| library::evaluate_by_position(&self.filter, &file.records),
+        );
+    }
+
+    fn time_by_name(&self, bench: &Bench) {
+        bench.row(
+            self.row("evaluate by name"),
+            |file| self.tree.evaluate(&file.by_name),
+            answer,
+            |file| library::evaluate_by_name(&self.filter, &file.records, &file.names),
+        );
+    }
+
+    fn time_filter_bbox(&self, bench: &Bench) {
+        let names: Vec<(String, u32)> = (0..self.columns).map(|k| (name(k), k as u32)).collect();
+        bench.row(
+            Row {
+                name: format!("filter_bbox, {}", self.nodes()),
+                inputs: &names,
+                parts: 1,
+            },
+            |(name, _)| self.tree.filter_bbox(name),
+            |bbox| (0, Ends::of(bbox)),
+            |(_, number)| library::filter_bbox(&self.filter, *number),
+        );
+    }
+}
+
+/// The Rust's answer as the library's number.
+fn answer(evaluated: &Result<bool>) -> u32 {
+    u32::from(*evaluated.as_ref().expect(LENT))
+}
+
+const LENT: &str = "each wanted column is there";
+
+fn count(number: usize, what: &str) -> String {
+    let s = if number == 1 { "" } else { "s" };
+    format!("{number} {what}{s}")
+}
+
+fn name(column: usize) -> String {
+    format!("c{column}")
+}
+
+/// A balanced tree of so many leaves over the wanted columns in turn: every fifth leaf is a Covers,
+/// and every second pair an Or.
+fn tree(leaves: usize, wanted: &[usize]) -> SpatialFilter {
+    let mut level: Vec<SpatialFilter> = (0..leaves)
+        .map(|k| leaf(k, wanted[k % wanted.len()]))
+        .collect();
+    while level.len() > 1 {
+        let mut nodes = level.into_iter();
+        level = Vec::new();
+        while let (Some(left), Some(right)) = (nodes.next(), nodes.next()) {
+            let pair = match level.len() % 2 {
+                0 => SpatialFilter::And,
+                _ => SpatialFilter::Or,
+            };
+            level.push(pair(Box::new(left), Box::new(right)));
+        }
+    }
+    level.remove(0)
+}
+
+/// No x of a literal wraps: in the filter's box such a one can have two parts in common with
+/// another, and the Rust would be timed at the text of its error.
+fn leaf(k: usize, column: usize) -> SpatialFilter {
+    let x = [(0.0, 10.0), (-60.0, 60.0), (-20.0, 30.0), (5.0, 8.0)][k % 4];
+    let (z, m) = (Interval::new(0.0, 5.0), Interval::new(55.0, 80.0));
+    let bbox = BoundingBox::xyzm(x, (0.0, 10.0), Some(z), Some(m));
+    let column = Column::new(&name(column), column);
+    match k % 5 {
+        4 => SpatialFilter::Covers(column, bbox),
+        _ => SpatialFilter::Intersects(column, bbox),
+    }
+}
+
+/// Draws files until there are enough of both answers, and puts the answers in turns. Only the wanted
+/// columns are drawn, so that rows of different widths ask the same question.
+fn files(tree: &SpatialFilter, columns: usize, wanted: &[usize]) -> Vec<File> {
+    let mut draws = Draws::new();
+    let [mut cannot, mut may] = [Vec::new(), Vec::new()];
+    while cannot.len() < FILES || may.len() < FILES {
+        let drawn: Vec<BoundingBox> = wanted.iter().map(|_| draws.bounding_box()).collect();
+        let mut boxes = vec![drawn[0].clone(); columns];
+        for (column, bbox) in wanted.iter().zip(drawn) {
+            boxes[*column] = bbox;
+        }
+        let by_position = TableGeoStatistics::ByPosition(boxes.iter().map(statistics).collect());
+        let matches = tree.evaluate(&by_position).expect(LENT);
+        let list = if matches { &mut may } else { &mut cannot };
+        if list.len() < FILES {
+            list.push(file(by_position, &boxes));
+        }
+    }
+    let pairs = cannot.into_iter().zip(may);
+    pairs.flat_map(|(cannot, may)| [cannot, may]).collect()
+}
+
+fn file(by_position: TableGeoStatistics, boxes: &[BoundingBox]) -> File {
+    let mut records = Boxes::default();
+    boxes.iter().for_each(|bbox| records.push(bbox));
+    let named = boxes.iter().enumerate();
+    File {
+        by_position,
+        by_name: TableGeoStatistics::ByName(
+            named.map(|(k, bbox)| (name(k), statistics(bbox))).collect(),
+        ),
+        records,
+        names: (0..boxes.len() as u32).collect(),
+    }
+}
+
+fn statistics(bbox: &BoundingBox) -> GeoStatistics {
+    GeoStatistics::unspecified().with_bbox(Some(bbox.clone()))
+}
