@@ -1,9 +1,10 @@
 //! Rows of single calls: two boxes, two x, two plain intervals.
 
 use crate::draws::Draws;
-use crate::layout::{Ends, Pair};
-use crate::library::*;
+use crate::layout::{Ends, ends};
 use crate::timing::{Bench, Row};
+use johikape::Interval;
+use johikape::raw::*;
 use oracle::bounding_box::BoundingBox;
 use oracle::interval::IntervalTrait;
 use std::hint::black_box;
@@ -16,8 +17,8 @@ struct Two {
     a: BoundingBox,
     b: BoundingBox,
     ends: [Ends; 2],
-    x: [Pair; 2],
-    y: [Pair; 2],
+    x: [Interval; 2],
+    y: [Interval; 2],
 }
 
 /// A call that changes a box changes a copy, which both sides make anew each time.
@@ -80,15 +81,15 @@ pub fn rows(bench: &Bench) {
     bench.row(
         row("x merge"),
         |two| two.a.x().merge_interval(two.b.x()),
-        Pair::of,
+        ends,
         |two| johikape_x_merge(two.x[0], two.x[1]),
     );
     bench.row(
         row("x intersection"),
         |two| two.a.x().intersection(two.b.x()),
-        |common| (0, Pair::of(common.as_ref().expect(ONE_PART))),
+        |common| (0, ends(common.as_ref().expect(ONE_PART))),
         |two| {
-            let mut common = Pair::default();
+            let mut common = Interval::empty();
             let number =
                 johikape_x_intersection(two.x[0], two.x[1], &mut common.lo, &mut common.hi);
             (number, common)
@@ -97,7 +98,7 @@ pub fn rows(bench: &Bench) {
     bench.row(
         row("interval merge"),
         |two| two.a.y().merge_interval(two.b.y()),
-        Pair::of,
+        ends,
         |two| johikape_interval_merge(two.y[0], two.y[1]),
     );
 }
@@ -112,8 +113,8 @@ fn pairs() -> Vec<Two> {
         .filter(|[a, b]| a.intersection(b).is_ok())
         .map(|[a, b]| Two {
             ends: [Ends::of(&a), Ends::of(&b)],
-            x: [Pair::of(a.x()), Pair::of(b.x())],
-            y: [Pair::of(a.y()), Pair::of(b.y())],
+            x: [ends(a.x()), ends(b.x())],
+            y: [ends(a.y()), ends(b.y())],
             a,
             b,
         })

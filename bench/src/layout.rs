@@ -33,21 +33,9 @@ impl Ends {
     }
 }
 
-/// Two ends, laid out as C's `johikape_interval`.
-#[repr(C)]
-#[derive(Clone, Copy, Debug, Default, PartialEq)]
-pub struct Pair {
-    pub lo: f64,
-    pub hi: f64,
-}
-
-impl Pair {
-    pub fn of(interval: &impl IntervalTrait) -> Pair {
-        Pair {
-            lo: interval.lo(),
-            hi: interval.hi(),
-        }
-    }
+/// The ends of an interval.
+pub fn ends(interval: &impl IntervalTrait) -> johikape::Interval {
+    johikape::Interval::new(interval.lo(), interval.hi())
 }
 
 /// A list of boxes.

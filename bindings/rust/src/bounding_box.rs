@@ -1,6 +1,6 @@
 //! Boxes over x, y, z and m.
 
-use crate::ffi;
+use crate::calls;
 use crate::interval::{Interval, WraparoundInterval};
 use crate::layout::Ends;
 use crate::refusal::Refusal;
@@ -75,12 +75,12 @@ impl BoundingBox {
 
     /// Whether the boxes intersect. z and m are tested only where both boxes know them.
     pub fn intersects(&self, other: &BoundingBox) -> bool {
-        ffi::box_intersects(&Ends::of(self), &Ends::of(other))
+        calls::box_intersects(&Ends::of(self), &Ends::of(other))
     }
 
     /// Whether this box contains the other. z and m are tested only where both boxes know them.
     pub fn contains(&self, other: &BoundingBox) -> bool {
-        ffi::box_contains(&Ends::of(self), &Ends::of(other))
+        calls::box_contains(&Ends::of(self), &Ends::of(other))
     }
 
     /// A box around both. z and m stay known only where both boxes know them.
@@ -96,7 +96,7 @@ impl BoundingBox {
     /// ```
     #[must_use]
     pub fn merge(&self, other: &BoundingBox) -> BoundingBox {
-        ffi::box_merge(Ends::of(self), &Ends::of(other)).bounding_box()
+        calls::box_merge(Ends::of(self), &Ends::of(other)).bounding_box()
     }
 
     /// What both hold. z and m stay known only where both boxes know them.
@@ -115,7 +115,7 @@ impl BoundingBox {
     /// # Ok::<(), Refusal>(())
     /// ```
     pub fn intersection(&self, other: &BoundingBox) -> Result<BoundingBox, Refusal> {
-        let met = ffi::box_intersection(Ends::of(self), &Ends::of(other))?;
+        let met = calls::box_intersection(Ends::of(self), &Ends::of(other))?;
         Ok(met.bounding_box())
     }
 
@@ -132,6 +132,6 @@ impl BoundingBox {
     /// ```
     #[must_use]
     pub fn expand_by(&self, distance: f64) -> BoundingBox {
-        ffi::box_expand_by(Ends::of(self), distance).bounding_box()
+        calls::box_expand_by(Ends::of(self), distance).bounding_box()
     }
 }

@@ -1,7 +1,7 @@
 //! Filters: trees that people write, and the tables that the library reads.
 
 use crate::bounding_box::BoundingBox;
-use crate::ffi;
+use crate::calls;
 use crate::layout::{Boxes, Ends};
 use crate::refusal::Refusal;
 use crate::statistics::GeoStatistics;
@@ -268,7 +268,7 @@ impl CompiledFilter {
     /// [`Refusal::Words`] where the filter has more than 1,024 nodes, else [`Refusal::NoColumn`]
     /// where an index has no record.
     pub fn evaluate_by_position(&self, records: &[GeoStatistics]) -> Result<Evaluation, Refusal> {
-        ffi::evaluate_by_position(&self.nodes, &self.literals, &Boxes::of(records.iter()))
+        calls::evaluate_by_position(&self.nodes, &self.literals, &Boxes::of(records.iter()))
     }
 
     /// Whether a file may have a row that is wanted. Each leaf looks at the record beside its name
@@ -298,7 +298,7 @@ impl CompiledFilter {
     ) -> Result<Evaluation, Refusal> {
         let names: Vec<u32> = records.iter().map(|(name, _)| *name).collect();
         let boxes = Boxes::of(records.iter().map(|(_, record)| record));
-        ffi::evaluate_by_name(&self.nodes, &self.literals, &boxes, &names)
+        calls::evaluate_by_name(&self.nodes, &self.literals, &boxes, &names)
     }
 
     /// The filter's box for the column of a name number: what an index scan looks up.
@@ -326,6 +326,6 @@ impl CompiledFilter {
     /// # Ok::<(), johikape::Refusal>(())
     /// ```
     pub fn filter_bbox(&self, name: u32) -> Result<BoundingBox, Refusal> {
-        Ok(ffi::filter_bbox(&self.nodes, &self.literals, name)?.bounding_box())
+        Ok(calls::filter_bbox(&self.nodes, &self.literals, name)?.bounding_box())
     }
 }

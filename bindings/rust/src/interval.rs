@@ -1,6 +1,6 @@
 //! Intervals in one dimension: plain ones, as y, z and m are, and x, which may wrap around.
 
-use crate::ffi;
+use crate::raw;
 use crate::refusal::Refusal;
 
 /// The numbers from `lo` to `hi`, both ends among them: a y, a z or an m. It never wraps around.
@@ -42,12 +42,12 @@ impl Interval {
 
     /// Whether the value lies in the interval. A NaN never does.
     pub fn intersects_value(self, value: f64) -> bool {
-        ffi::johikape_interval_accepts(self, value)
+        raw::johikape_interval_accepts(self, value)
     }
 
     /// Whether each interval begins at or below the other's end.
     pub fn intersects(self, other: Interval) -> bool {
-        ffi::johikape_interval_intersects(self, other)
+        raw::johikape_interval_intersects(self, other)
     }
 
     /// Whether the interval begins at or below the other's low and ends at or above its high.
@@ -58,7 +58,7 @@ impl Interval {
     /// assert!(!Interval::new(0.0, 9.0).contains(Interval::new(5.0, 10.0)));
     /// ```
     pub fn contains(self, other: Interval) -> bool {
-        ffi::johikape_interval_contains(self, other)
+        raw::johikape_interval_contains(self, other)
     }
 
     /// Whether the width is minus infinity.
@@ -69,12 +69,12 @@ impl Interval {
     /// assert!(!Interval::new(3.0, 3.0).is_empty());
     /// ```
     pub fn is_empty(self) -> bool {
-        ffi::johikape_interval_is_empty(self)
+        raw::johikape_interval_is_empty(self)
     }
 
     /// The upper end less the lower.
     pub fn width(self) -> f64 {
-        ffi::johikape_interval_width(self)
+        raw::johikape_interval_width(self)
     }
 
     /// The midpoint: the lower end and half the width.
@@ -84,13 +84,13 @@ impl Interval {
     /// assert_eq!(Interval::new(1.0, 4.0).mid(), 2.5);
     /// ```
     pub fn mid(self) -> f64 {
-        ffi::johikape_interval_mid(self)
+        raw::johikape_interval_mid(self)
     }
 
     /// The least interval around both. A NaN end is passed over.
     #[must_use]
     pub fn merge(self, other: Interval) -> Interval {
-        ffi::johikape_interval_merge(self, other)
+        raw::johikape_interval_merge(self, other)
     }
 
     /// The least interval around this one and a value. A NaN is passed over.
@@ -101,7 +101,7 @@ impl Interval {
     /// ```
     #[must_use]
     pub fn merge_value(self, value: f64) -> Interval {
-        ffi::johikape_interval_merge_value(self, value)
+        raw::johikape_interval_merge_value(self, value)
     }
 
     /// What both hold; empty where they are apart.
@@ -114,7 +114,7 @@ impl Interval {
     /// ```
     #[must_use]
     pub fn intersection(self, other: Interval) -> Interval {
-        ffi::johikape_interval_intersection(self, other)
+        raw::johikape_interval_intersection(self, other)
     }
 
     /// Both ends moved outward. A distance that is NaN or negative changes nothing, and an empty
@@ -126,7 +126,7 @@ impl Interval {
     /// ```
     #[must_use]
     pub fn expand_by(self, distance: f64) -> Interval {
-        ffi::johikape_interval_expand_by(self, distance)
+        raw::johikape_interval_expand_by(self, distance)
     }
 }
 
@@ -153,7 +153,6 @@ impl From<(f64, f64)> for Interval {
 /// assert!(!antimeridian.intersects_value(0.0));
 /// ```
 #[derive(Clone, Copy, Debug, PartialEq)]
-#[repr(C)]
 pub struct WraparoundInterval {
     /// The lower end; the lower end of the right piece where the x wraps around.
     pub lo: f64,
@@ -165,6 +164,16 @@ impl WraparoundInterval {
     /// The x with these ends, as they are. It wraps around where the low is above the high.
     pub const fn new(lo: f64, hi: f64) -> WraparoundInterval {
         WraparoundInterval { lo, hi }
+    }
+
+    /// Its ends, as the library takes them of every interval.
+    const fn ends(self) -> Interval {
+        Interval::new(self.lo, self.hi)
+    }
+
+    /// The x with these ends.
+    const fn of(ends: Interval) -> WraparoundInterval {
+        WraparoundInterval::new(ends.lo, ends.hi)
     }
 
     /// An x that accepts no value: `(inf, -inf)`.
@@ -179,17 +188,17 @@ impl WraparoundInterval {
 
     /// Whether the x wraps around: it is not empty, and its low is above its high.
     pub fn is_wraparound(self) -> bool {
-        ffi::johikape_x_wraps(self)
+        raw::johikape_x_wraps(self.ends())
     }
 
     /// Whether the value lies in the x. A NaN never does.
     pub fn intersects_value(self, value: f64) -> bool {
-        ffi::johikape_x_accepts(self, value)
+        raw::johikape_x_accepts(self.ends(), value)
     }
 
     /// Whether some piece of this x and some piece of the other intersect.
     pub fn intersects(self, other: WraparoundInterval) -> bool {
-        ffi::johikape_x_intersects(self, other)
+        raw::johikape_x_intersects(self.ends(), other.ends())
     }
 
     /// Whether the left piece contains the other's left piece, and the right one its right piece.
@@ -204,22 +213,22 @@ impl WraparoundInterval {
     /// assert!(!antimeridian.contains(WraparoundInterval::new(175.0, 178.0)));
     /// ```
     pub fn contains(self, other: WraparoundInterval) -> bool {
-        ffi::johikape_x_contains(self, other)
+        raw::johikape_x_contains(self.ends(), other.ends())
     }
 
     /// Whether the high less the low is minus infinity.
     pub fn is_empty(self) -> bool {
-        ffi::johikape_x_is_empty(self)
+        raw::johikape_x_is_empty(self.ends())
     }
 
     /// The high less the low; of an x that wraps around infinity.
     pub fn width(self) -> f64 {
-        ffi::johikape_x_width(self)
+        raw::johikape_x_width(self.ends())
     }
 
     /// The midpoint; of an x that wraps around infinity.
     pub fn mid(self) -> f64 {
-        ffi::johikape_x_mid(self)
+        raw::johikape_x_mid(self.ends())
     }
 
     /// An x around both. An empty one yields the other as it is.
@@ -237,14 +246,14 @@ impl WraparoundInterval {
     /// ```
     #[must_use]
     pub fn merge(self, other: WraparoundInterval) -> WraparoundInterval {
-        ffi::johikape_x_merge(self, other)
+        WraparoundInterval::of(raw::johikape_x_merge(self.ends(), other.ends()))
     }
 
     /// An x around this one and a value. Of a wrapped one the nearer end moves there, at a tie the
     /// low. A NaN is passed over.
     #[must_use]
     pub fn merge_value(self, value: f64) -> WraparoundInterval {
-        ffi::johikape_x_merge_value(self, value)
+        WraparoundInterval::of(raw::johikape_x_merge_value(self.ends(), value))
     }
 
     /// What both hold, empty where they are apart.
@@ -267,7 +276,8 @@ impl WraparoundInterval {
     /// ```
     pub fn intersection(self, other: WraparoundInterval) -> Result<WraparoundInterval, Refusal> {
         let mut met = WraparoundInterval::empty();
-        let number = ffi::johikape_x_intersection(self, other, &mut met.lo, &mut met.hi);
+        let number =
+            raw::johikape_x_intersection(self.ends(), other.ends(), &mut met.lo, &mut met.hi);
         Refusal::check(number).map(|()| met)
     }
 
@@ -282,7 +292,7 @@ impl WraparoundInterval {
     /// ```
     #[must_use]
     pub fn expand_by(self, distance: f64) -> WraparoundInterval {
-        ffi::johikape_x_expand_by(self, distance)
+        WraparoundInterval::of(raw::johikape_x_expand_by(self.ends(), distance))
     }
 }
 

@@ -31,6 +31,8 @@
 //! `JOHIKAPE_LIB_DIR` names, else where `bindings/build` puts it. A program that uses this crate
 //! has it inside: nothing is loaded when it starts.
 //!
+//! A caller that has the library's tables already calls it by [`raw`].
+//!
 //! # Rules that hold throughout
 //!
 //! * An x may **wrap around**. With its low above its high it is everything at or above the low,
@@ -45,11 +47,12 @@
 #![warn(missing_docs)]
 
 mod bounding_box;
-#[allow(unsafe_code)]
-mod ffi;
+mod calls;
 mod filter;
 mod interval;
 mod layout;
+#[allow(unsafe_code)]
+pub mod raw;
 mod refusal;
 mod statistics;
 

@@ -1,7 +1,7 @@
 //! Records: statistics of a column, and their merge and fold.
 
 use crate::bounding_box::BoundingBox;
-use crate::ffi;
+use crate::calls;
 use crate::layout::{Record, Records};
 use crate::refusal::Refusal;
 
@@ -109,7 +109,7 @@ impl GeoStatistics {
     /// assert_eq!(most.total_points, Some(i64::MAX));
     /// ```
     pub fn merge(&mut self, other: &GeoStatistics) -> Result<(), Refusal> {
-        let merged = ffi::merge(Record::of(self), &Record::of(other))?;
+        let merged = calls::merge(Record::of(self), &Record::of(other))?;
         *self = merged.statistics();
         Ok(())
     }
@@ -145,5 +145,5 @@ impl From<BoundingBox> for GeoStatistics {
 /// # Ok::<(), johikape::Refusal>(())
 /// ```
 pub fn fold(records: &[GeoStatistics]) -> Result<GeoStatistics, Refusal> {
-    Ok(ffi::fold(&Records::of(records))?.statistics())
+    Ok(calls::fold(&Records::of(records))?.statistics())
 }

@@ -2,8 +2,8 @@
 
 use crate::cases::BoxCase;
 use crate::compared::{Answer, Call, Given, NUMBER, TEST};
-use crate::ffi::*;
 use crate::layout::{BAD_FLAGS, Bounds, TWO_PARTS};
+use johikape::raw::*;
 use oracle::bounding_box::BoundingBox;
 
 pub fn calls() -> Vec<Call<BoxCase>> {

@@ -1,7 +1,7 @@
 //! What calls are made with, drawn from a seed.
 
-use crate::ffi::Interval;
 use crate::layout::{BOX_FLAGS, Bounds, PARTS, Record, Records};
+use johikape::Interval;
 use oracle::bounding_box::BoundingBox;
 use oracle::cases::VALUES;
 use oracle::filter_draws::{NAMES, tables};

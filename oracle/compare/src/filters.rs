@@ -2,8 +2,8 @@
 
 use crate::cases::FilterCase;
 use crate::compared::{Answer, Call, EVALUATION, Expected, Given, NUMBER};
-use crate::ffi;
 use crate::layout::Bounds;
+use crate::library;
 use oracle::filters::Lookup;
 
 pub fn calls() -> Vec<Call<FilterCase>> {
@@ -11,13 +11,13 @@ pub fn calls() -> Vec<Call<FilterCase>> {
         Call::new(
             "evaluate_by_position",
             EVALUATION,
-            |case: &FilterCase| Answer::number(ffi::evaluate_by_position(&case.tables)).into(),
+            |case: &FilterCase| Answer::number(library::evaluate_by_position(&case.tables)).into(),
             |case| evaluate(case, Lookup::ByPosition),
         ),
         Call::new(
             "evaluate_by_name",
             EVALUATION,
-            |case: &FilterCase| Answer::number(ffi::evaluate_by_name(&case.tables)).into(),
+            |case: &FilterCase| Answer::number(library::evaluate_by_name(&case.tables)).into(),
             |case| evaluate(case, Lookup::ByName),
         ),
         Call::new(
@@ -25,7 +25,7 @@ pub fn calls() -> Vec<Call<FilterCase>> {
             NUMBER,
             |FilterCase { tables, name }| {
                 Given::lent(Bounds::PATTERN, |out| {
-                    ffi::filter_bbox(tables, *name, &mut out.ends, &mut out.flags)
+                    library::filter_bbox(tables, *name, &mut out.ends, &mut out.flags)
                 })
             },
             |FilterCase { tables, name }| {

@@ -2,8 +2,9 @@
 
 use crate::cases::IntervalCase;
 use crate::compared::{Answer, Call, Given, NUMBER, TEST, Words};
-use crate::ffi::*;
 use crate::layout::{Bounds, TWO_PARTS};
+use johikape::Interval;
+use johikape::raw::*;
 use oracle::interval::{Interval as Plain, IntervalTrait, WraparoundInterval as X};
 
 #[rustfmt::skip]

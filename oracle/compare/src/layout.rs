@@ -1,6 +1,6 @@
 //! Boxes and records as they cross the boundary, and their way to the Rust's and back.
 
-use crate::ffi::Interval;
+use johikape::Interval;
 use oracle::bounding_box::BoundingBox;
 use oracle::filters::bounds;
 use oracle::interval::IntervalTrait;

@@ -3,10 +3,10 @@
 mod boxes;
 mod cases;
 mod compared;
-mod ffi;
 mod filters;
 mod intervals;
 mod layout;
+mod library;
 mod records;
 mod show;
 

@@ -2,8 +2,8 @@
 
 use crate::cases::RecordCase;
 use crate::compared::{Answer, Call, Expected, Given, NUMBER};
-use crate::ffi;
 use crate::layout::{BAD_FLAGS, Record, Records};
+use crate::library;
 use oracle::records::{LEAVES_RANGE, folded, merged};
 use oracle::statistics::GeoStatistics;
 
@@ -11,7 +11,7 @@ pub fn merges() -> Vec<Call<RecordCase>> {
     vec![Call::new(
         "merge",
         NUMBER,
-        |RecordCase { a, b }| Given::lent(*a, |a| ffi::merge(a, b)),
+        |RecordCase { a, b }| Given::lent(*a, |a| library::merge(a, b)),
         |RecordCase { a, b }| {
             let a = a.to_rust().ok_or(BAD_FLAGS)?;
             let b = b.to_rust().ok_or(BAD_FLAGS)?;
@@ -24,7 +24,7 @@ pub fn folds() -> Vec<Call<Records>> {
     vec![Call::new(
         "fold",
         NUMBER,
-        |records: &Records| Given::lent(Record::PATTERN, |out| ffi::fold(records, out)),
+        |records: &Records| Given::lent(Record::PATTERN, |out| library::fold(records, out)),
         |records| in_range(folded(&records.to_rust().ok_or(BAD_FLAGS)?)),
     )]
 }

@@ -1,8 +1,8 @@
 //! Cases and what calls gave, as text: each double by its bits and as a number.
 
 use crate::cases::{BoxCase, FilterCase, IntervalCase, RecordCase};
-use crate::ffi::Interval;
 use crate::layout::{Bounds, Record, Records};
+use johikape::Interval;
 use oracle::filters::Boxes;
 use std::fmt::{Display, Formatter, Result};
 
@@ -11,12 +11,6 @@ fn doubles(doubles: &[f64]) -> String {
         .iter()
         .map(|double| format!("x{:016x} ({double:?})", double.to_bits()));
     texts.collect::<Vec<_>>().join(", ")
-}
-
-impl Display for Interval {
-    fn fmt(&self, f: &mut Formatter<'_>) -> Result {
-        write!(f, "{}", doubles(&[self.lo, self.hi]))
-    }
 }
 
 impl Display for Bounds {
@@ -49,7 +43,8 @@ impl Display for Record {
 
 impl Display for IntervalCase {
     fn fmt(&self, f: &mut Formatter<'_>) -> Result {
-        writeln!(f, "a: {}\nb: {}", self.a, self.b)?;
+        let ends = |i: Interval| doubles(&[i.lo, i.hi]);
+        writeln!(f, "a: {}\nb: {}", ends(self.a), ends(self.b))?;
         write!(f, "value: {}", doubles(&[self.value]))
     }
 }

@@ -1,25 +1,20 @@
-//! The functions of the proved library, as `johikape.h` declares them. All the unsafe code of the
-//! program is here.
+//! The library's functions, as `johikape.h` declares them, for callers that have tables of their own.
+//! All the unsafe code is here; every call is safe.
 //!
-//! The library keeps no state and no pointer, writes only through what is `&mut` below, and gives a
-//! bad value a number. So a call is sound where each pointer is good for what its type and count
-//! say, and where what is written overlaps no other argument. Arguments that are references are
-//! both by their type, and the functions that take nothing else are declared `safe`. The four that
-//! take lists as pointers and counts are called here alone, over slices.
+//! The header says what the numbers, flags and tables mean. The library keeps no state and no
+//! pointer, writes only through what is `&mut` below, and gives a bad value a number. So a call is
+//! sound where each pointer is good for what its type and count say, and where what is written
+//! overlaps no other argument. Arguments that are references are both by their type, and the
+//! functions that take nothing else are declared `safe`. The four that take lists as pointers and
+//! counts are called here alone, over slices.
 
-use crate::layout::{Record, Records};
-use oracle::filters::Tables;
+#![allow(missing_docs)]
 
-/// Two ends, of a plain interval or of an x.
-#[derive(Clone, Copy)]
-#[repr(C)]
-pub struct Interval {
-    pub lo: f64,
-    pub hi: f64,
-}
+use crate::interval::Interval;
 
-// SAFETY: the declarations are those of johikape.h. An array argument is a pointer to its first
-// number, as a reference to an array is.
+// SAFETY: the declarations are those of johikape.h. Its `johikape_interval`, two doubles, is laid
+// out as `Interval` is, which is `repr(C)`; an array argument is a pointer to its first number, as a
+// reference to an array is.
 unsafe extern "C" {
     pub safe fn johikape_interval_accepts(a: Interval, value: f64) -> bool;
     pub safe fn johikape_interval_intersects(a: Interval, b: Interval) -> bool;
@@ -70,7 +65,7 @@ unsafe extern "C" {
     ) -> u32;
     pub safe fn johikape_box_expand_by(a: &mut [f64; 8], a_flags: &mut u8, distance: f64) -> u32;
 
-    safe fn johikape_merge(
+    pub safe fn johikape_merge(
         doubles: &mut [f64; 10],
         totals: &mut [i64; 7],
         types: &mut u32,
@@ -137,89 +132,111 @@ unsafe extern "C" {
     ) -> u32;
 }
 
-pub fn merge(record: &mut Record, other: &Record) -> u32 {
-    johikape_merge(
-        &mut record.doubles,
-        &mut record.totals,
-        &mut record.types,
-        &mut record.flags,
-        &other.doubles,
-        &other.totals,
-        other.types,
-        other.flags,
-    )
-}
+// SAFETY, of the four below: each pointer and count are those of one slice, which is lent for the
+// whole call and only read. What is written is borrowed by the call alone.
 
-pub fn fold(records: &Records, out: &mut Record) -> u32 {
-    // SAFETY: each pointer and count are those of one slice, which is lent for the whole call and
-    // only read. What is written is `out`, which is borrowed here alone.
+/// `johikape_fold`.
+#[inline]
+#[allow(clippy::too_many_arguments)]
+pub fn fold(
+    doubles: &[f64],
+    totals: &[i64],
+    types: &[u32],
+    flags: &[u32],
+    out_doubles: &mut [f64; 10],
+    out_totals: &mut [i64; 7],
+    out_types: &mut u32,
+    out_flags: &mut u32,
+) -> u32 {
     unsafe {
         johikape_fold(
-            records.doubles.as_ptr(),
-            records.doubles.len(),
-            records.totals.as_ptr(),
-            records.totals.len(),
-            records.types.as_ptr(),
-            records.types.len(),
-            records.flags.as_ptr(),
-            records.flags.len(),
-            &mut out.doubles,
-            &mut out.totals,
-            &mut out.types,
-            &mut out.flags,
+            doubles.as_ptr(),
+            doubles.len(),
+            totals.as_ptr(),
+            totals.len(),
+            types.as_ptr(),
+            types.len(),
+            flags.as_ptr(),
+            flags.len(),
+            out_doubles,
+            out_totals,
+            out_types,
+            out_flags,
         )
     }
 }
 
-pub fn evaluate_by_position(tables: &Tables) -> u32 {
-    // SAFETY: each pointer and count are those of one slice, which is lent for the whole call and
-    // only read. Nothing is written.
+/// `johikape_evaluate_by_position`.
+#[inline]
+pub fn evaluate_by_position(
+    nodes: &[u32],
+    literals: &[f64],
+    literal_flags: &[u8],
+    records: &[f64],
+    record_flags: &[u8],
+) -> u32 {
     unsafe {
         johikape_evaluate_by_position(
-            tables.nodes.as_ptr(),
-            tables.nodes.len(),
-            tables.literals.ends.as_ptr(),
-            tables.literals.ends.len(),
-            tables.literals.flags.as_ptr(),
-            tables.literals.flags.len(),
-            tables.records.ends.as_ptr(),
-            tables.records.ends.len(),
-            tables.records.flags.as_ptr(),
-            tables.records.flags.len(),
+            nodes.as_ptr(),
+            nodes.len(),
+            literals.as_ptr(),
+            literals.len(),
+            literal_flags.as_ptr(),
+            literal_flags.len(),
+            records.as_ptr(),
+            records.len(),
+            record_flags.as_ptr(),
+            record_flags.len(),
         )
     }
 }
 
-pub fn evaluate_by_name(tables: &Tables) -> u32 {
-    // SAFETY: as by position.
+/// `johikape_evaluate_by_name`.
+#[inline]
+pub fn evaluate_by_name(
+    nodes: &[u32],
+    literals: &[f64],
+    literal_flags: &[u8],
+    records: &[f64],
+    record_flags: &[u8],
+    names: &[u32],
+) -> u32 {
     unsafe {
         johikape_evaluate_by_name(
-            tables.nodes.as_ptr(),
-            tables.nodes.len(),
-            tables.literals.ends.as_ptr(),
-            tables.literals.ends.len(),
-            tables.literals.flags.as_ptr(),
-            tables.literals.flags.len(),
-            tables.records.ends.as_ptr(),
-            tables.records.ends.len(),
-            tables.records.flags.as_ptr(),
-            tables.records.flags.len(),
-            tables.names.as_ptr(),
-            tables.names.len(),
+            nodes.as_ptr(),
+            nodes.len(),
+            literals.as_ptr(),
+            literals.len(),
+            literal_flags.as_ptr(),
+            literal_flags.len(),
+            records.as_ptr(),
+            records.len(),
+            record_flags.as_ptr(),
+            record_flags.len(),
+            names.as_ptr(),
+            names.len(),
         )
     }
 }
 
-pub fn filter_bbox(tables: &Tables, name: u32, ends: &mut [f64; 8], flags: &mut u8) -> u32 {
-    // SAFETY: as by position. What is written is `ends` and `flags`, which are borrowed here alone.
+/// `johikape_filter_bbox`.
+#[inline]
+pub fn filter_bbox(
+    nodes: &[u32],
+    literals: &[f64],
+    literal_flags: &[u8],
+    name: u32,
+    ends: &mut [f64; 8],
+    flags: &mut u8,
+) -> u32 {
     unsafe {
         johikape_filter_bbox(
-            tables.nodes.as_ptr(),
-            tables.nodes.len(),
-            tables.literals.ends.as_ptr(),
-            tables.literals.ends.len(),
-            tables.literals.flags.as_ptr(),
-            tables.literals.flags.len(),
+            nodes.as_ptr(),
+            nodes.len(),
+            literals.as_ptr(),
+            literals.len(),
+            literal_flags.as_ptr(),
+            literal_flags.len(),
             name,
             ends,
             flags,

@@ -1,0 +1,133 @@
+//! Calls of the library over this crate's values.
+
+use crate::filter::Evaluation;
+use crate::layout::{Boxes, Ends, Record, Records};
+use crate::raw;
+use crate::refusal::Refusal;
+
+/// Why a box that this crate laid out is never refused by 8.
+const GOOD_FLAGS: &str = "the flags of a box are good";
+
+/// What a test of two boxes answers.
+fn yes(answer: u32) -> bool {
+    match answer {
+        1 => true,
+        number => {
+            Refusal::check(number).expect(GOOD_FLAGS);
+            false
+        }
+    }
+}
+
+pub(crate) fn box_intersects(a: &Ends, b: &Ends) -> bool {
+    yes(raw::johikape_box_intersects(
+        &a.doubles, a.flags, &b.doubles, b.flags,
+    ))
+}
+
+pub(crate) fn box_contains(a: &Ends, b: &Ends) -> bool {
+    yes(raw::johikape_box_contains(
+        &a.doubles, a.flags, &b.doubles, b.flags,
+    ))
+}
+
+pub(crate) fn box_merge(mut a: Ends, b: &Ends) -> Ends {
+    let number = raw::johikape_box_merge(&mut a.doubles, &mut a.flags, &b.doubles, b.flags);
+    Refusal::check(number).expect(GOOD_FLAGS);
+    a
+}
+
+pub(crate) fn box_intersection(mut a: Ends, b: &Ends) -> Result<Ends, Refusal> {
+    let number = raw::johikape_box_intersection(&mut a.doubles, &mut a.flags, &b.doubles, b.flags);
+    Refusal::check(number).map(|()| a)
+}
+
+pub(crate) fn box_expand_by(mut a: Ends, distance: f64) -> Ends {
+    let number = raw::johikape_box_expand_by(&mut a.doubles, &mut a.flags, distance);
+    Refusal::check(number).expect(GOOD_FLAGS);
+    a
+}
+
+pub(crate) fn merge(mut a: Record, b: &Record) -> Result<Record, Refusal> {
+    let number = raw::johikape_merge(
+        &mut a.doubles,
+        &mut a.totals,
+        &mut a.types,
+        &mut a.flags,
+        &b.doubles,
+        &b.totals,
+        b.types,
+        b.flags,
+    );
+    Refusal::check(number).map(|()| a)
+}
+
+pub(crate) fn fold(records: &Records) -> Result<Record, Refusal> {
+    let mut folded = Record::NONE;
+    let number = raw::fold(
+        records.doubles.as_flattened(),
+        records.totals.as_flattened(),
+        &records.types,
+        &records.flags,
+        &mut folded.doubles,
+        &mut folded.totals,
+        &mut folded.types,
+        &mut folded.flags,
+    );
+    Refusal::check(number).map(|()| folded)
+}
+
+/// What an evaluation answers. The numbers that refuse one begin at 4, so none of them is 0 or 1.
+fn evaluation(answer: u32) -> Result<Evaluation, Refusal> {
+    match answer {
+        1 => Ok(Evaluation::MayMatch),
+        number => Refusal::check(number).map(|()| Evaluation::CannotMatch),
+    }
+}
+
+pub(crate) fn evaluate_by_position(
+    nodes: &[[u32; 4]],
+    literals: &Boxes,
+    records: &Boxes,
+) -> Result<Evaluation, Refusal> {
+    evaluation(raw::evaluate_by_position(
+        nodes.as_flattened(),
+        literals.doubles.as_flattened(),
+        &literals.flags,
+        records.doubles.as_flattened(),
+        &records.flags,
+    ))
+}
+
+pub(crate) fn evaluate_by_name(
+    nodes: &[[u32; 4]],
+    literals: &Boxes,
+    records: &Boxes,
+    names: &[u32],
+) -> Result<Evaluation, Refusal> {
+    evaluation(raw::evaluate_by_name(
+        nodes.as_flattened(),
+        literals.doubles.as_flattened(),
+        &literals.flags,
+        records.doubles.as_flattened(),
+        &records.flags,
+        names,
+    ))
+}
+
+pub(crate) fn filter_bbox(
+    nodes: &[[u32; 4]],
+    literals: &Boxes,
+    name: u32,
+) -> Result<Ends, Refusal> {
+    let mut found = Ends::NONE;
+    let number = raw::filter_bbox(
+        nodes.as_flattened(),
+        literals.doubles.as_flattened(),
+        &literals.flags,
+        name,
+        &mut found.doubles,
+        &mut found.flags,
+    );
+    Refusal::check(number).map(|()| found)
+}
