@@ -1,13 +1,10 @@
-//! Answers a case file line by line. `CALL V V ..` is one case, `sweep CALL` makes the call with
+//! Answers a case file line by line. `CALL V V ..` is one case, and `sweep CALL` makes the call with
 //! every tuple of operands from the last lines `values V V ..`, `intervals LO HI ..` and
-//! `sets S S ..`, and `folds SEED COUNT` folds drawn lists of records. A filter call is over the
-//! tables of the last lines `nodes W W ..` and so on, and `filters SEED COUNT` makes the calls over
-//! drawn tables. Comments and empty lines are copied.
+//! `sets S S ..`. A filter call is over the tables of the last lines `nodes W W ..` and so on.
+//! Comments and empty lines are copied.
 
-use crate::answer::Digest;
-use crate::calls::{Call, fold_lists};
-use crate::filter_draws;
-use crate::filters::{Lookup, Tables, filter_tables};
+use crate::calls::Call;
+use crate::filters::{Lookup, Tables};
 use crate::operands::Lists;
 use crate::text::read_set;
 
@@ -52,10 +49,7 @@ impl Reader<'_> {
             ["intervals", ref words @ ..] => return copied(self.lists.set_intervals(words)),
             ["sets", ref words @ ..] => return copied(self.lists.set_sets(words)),
             ["sweep", name] => self.sweep(name),
-            ["folds", seed, count] => drawn(fold_lists, seed, count),
-            ["filters", seed, count] => drawn(filter_tables, seed, count),
             ["chain", words] => return copied(self.chain(words)),
-            ["draw", seed] => return copied(self.draw(seed)),
             [name, ref operands @ ..] if !name.contains(':') => {
                 return copied(self.tables.set(name, operands));
             }
@@ -71,11 +65,6 @@ impl Reader<'_> {
         self.tables.set_chain(read_set(words)? as usize)
     }
 
-    fn draw(&mut self, seed: &str) -> Option<()> {
-        self.tables = filter_draws::tables(read_set(seed)?);
-        Some(())
-    }
-
     /// A call over the tables.
     fn filter(&self, name: &str, operands: &[&str]) -> Option<String> {
         let answer = match (name.strip_prefix("SpatialFilter::")?, operands) {
@@ -88,7 +77,8 @@ impl Reader<'_> {
     }
 
     fn sweep(&self, name: &str) -> Option<String> {
-        let (count, digest) = self.call(name)?.sweep(&self.lists);
+        let call = self.call(name).filter(|call| call.is_swept())?;
+        let (count, digest) = call.sweep(&self.lists);
         Some(format!("{count} {digest}"))
     }
 
@@ -100,12 +90,6 @@ impl Reader<'_> {
     fn call(&self, name: &str) -> Option<&Call> {
         self.calls.iter().find(|call| call.name == name)
     }
-}
-
-/// How many were drawn, and the digest of what they gave.
-fn drawn(digest: fn(u32, u32) -> Digest, seed: &str, count: &str) -> Option<String> {
-    let (seed, count) = (read_set(seed)?, read_set(count)?);
-    Some(format!("{count} {}", digest(seed, count)))
 }
 
 /// A line with a list that was taken, or was none.

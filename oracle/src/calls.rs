@@ -2,7 +2,6 @@
 
 use crate::answer::{Answer, Digest};
 use crate::bounding_box::BoundingBox;
-use crate::draws;
 use crate::interval::{Interval, IntervalTrait, WraparoundInterval};
 use crate::operands::{Kind, Lists, Operand, Operands, read};
 use crate::records::{folded, merged};
@@ -14,6 +13,9 @@ const TWO_PARTS: u64 = 1;
 
 /// The number where a wrapped x is turned into a plain interval.
 const WRAPPED: u64 = 2;
+
+/// What the calls of records are of.
+const STATISTICS: &str = "GeoStatistics";
 
 pub struct Call {
     pub name: String,
@@ -42,6 +44,11 @@ impl Call {
     pub fn answer(&self, words: &[&str]) -> Option<Answer> {
         let operands = read(&self.operands, words)?;
         Some((self.run)(&operands.iter().collect::<Vec<_>>()))
+    }
+
+    /// Whether sweeps make it. Calls of records they do not, since records are in no list.
+    pub fn is_swept(&self) -> bool {
+        !self.name.starts_with(STATISTICS)
     }
 
     /// Makes the call with every tuple of operands from the lists, the first operand slowest;
@@ -190,7 +197,7 @@ fn calls_of_set() -> Vec<Call> {
 }
 
 fn calls_of_statistics() -> Vec<Call> {
-    let of = "GeoStatistics";
+    let of = STATISTICS;
     vec![
         Call::new(of, "unspecified", |[]: [f64; 0]| {
             unrefused(GeoStatistics::unspecified())
@@ -209,7 +216,6 @@ fn calls_of_statistics() -> Vec<Call> {
         Call::new(of, "fold", |list: [GeoStatistics; 2]| fold(&list)),
         Call::new(of, "fold_one", |list: [GeoStatistics; 1]| fold(&list)),
         Call::new(of, "fold_none", |list: [GeoStatistics; 0]| fold(&list)),
-        Call::new(of, "fold_drawn", |[seed]: [u32; 1]| fold_drawn(seed)),
     ]
 }
 
@@ -219,21 +225,6 @@ fn unrefused(record: GeoStatistics) -> Answer {
 
 fn fold(list: &[GeoStatistics]) -> Answer {
     Answer::numbered(folded(list), GeoStatistics::unspecified())
-}
-
-/// The fold of the list drawn from a seed.
-fn fold_drawn(seed: u32) -> Answer {
-    fold(&draws::list(seed))
-}
-
-/// The digest of the folds of so many lists, the first drawn from a seed and each other from the
-/// next.
-pub fn fold_lists(seed: u32, count: u32) -> Digest {
-    let mut digest = Digest::default();
-    for i in 0..count {
-        digest.add(&fold_drawn(seed.wrapping_add(i)));
-    }
-    digest
 }
 
 /// A call of an interval.

@@ -31,12 +31,6 @@ const SETS: [u32; 22] = [
     0x100_0000, 0x8000_0000, 0xff00_0000, 0x5555_5555, 0xaaaa_aaaa, u32::MAX - 1, u32::MAX,
 ];
 
-/// Lists of records to fold: the seed of the first, and how many.
-const FOLDS: [[u32; 2]; 3] = [[1, 10_000], [0x4000_0000, 10_000], [u32::MAX, 2]];
-
-/// Tables of filters to draw: the seed of the first, and how many.
-const FILTERS: [[u32; 2]; 3] = [[1, 20_000], [0x4000_0000, 20_000], [u32::MAX, 2]];
-
 /// The names that singles.txt has for doubles.
 const NAMED: [(&str, f64); 7] = [
     ("MAX", f64::MAX),
@@ -50,26 +44,19 @@ const NAMED: [(&str, f64); 7] = [
 
 const HEADER: &str = "\
 # The cases of the replay program, as `oracle cases` writes them.
-# First each call with every tuple of operands from the three lists, but for calls with records, which
-# are in no list; then folds of drawn lists of records and filters over drawn tables; then single cases.
+# First each call with every tuple of operands from the three lists, but for calls of records and of
+# filters, which are in no list; then single cases.
 ";
 
-/// The case file: a sweep of every call whose operands are listed, the folds, the filters, and the
-/// cases of singles.txt and filters.txt.
+/// The case file: a sweep of every call whose operands are listed, and the cases of singles.txt and
+/// filters.txt.
 pub fn cases(calls: &[Call]) -> String {
     let sweeps: String = calls
         .iter()
-        .filter(|call| call.operands.iter().all(|kind| kind.is_listed()))
+        .filter(|call| call.is_swept())
         .map(|call| format!("sweep {}\n", call.name))
         .collect();
-    let folds = FOLDS.map(|numbers| drawn("folds", numbers)).concat();
-    let filters = FILTERS.map(|numbers| drawn("filters", numbers)).concat();
-    let singles = singles();
-    [HEADER, &list_lines(), &sweeps, &folds, &filters, &singles].concat()
-}
-
-fn drawn(name: &str, numbers: [u32; 2]) -> String {
-    write_line(name, &numbers.map(|number| number.to_string()))
+    [HEADER, &list_lines(), &sweeps, &singles()].concat()
 }
 
 /// The lines that set what sweeps go over.

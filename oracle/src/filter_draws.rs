@@ -1,14 +1,28 @@
-//! Tables of a filter drawn from a seed, the same as the replay program draws.
+//! Tables of a filter, drawn.
 
-use crate::draws::Draws;
 use crate::filters::{Boxes, Tables};
-use crate::interval::IntervalTrait;
+use crate::random::Random;
+
+const INF: f64 = f64::INFINITY;
+const NAN: f64 = f64::NAN;
+
+/// Plain intervals, then wrapped ones, then those with an end that is no number.
+#[rustfmt::skip]
+const INTERVALS: [[f64; 2]; 16] = [
+    [0.0, 10.0], [-5.0, 5.0], [100.0, 175.0], [-180.0, -100.0],
+    [170.0, -170.0], [20.0, 5.0], [90.0, -90.0], [1.0, 0.0],
+    [INF, -INF], [-INF, INF], [-INF, 5.0], [5.0, INF],
+    [NAN, 5.0], [5.0, NAN], [NAN, NAN], [INF, INF],
+];
+
+/// So many of the intervals are drawn from.
+const DOWN_TO: [usize; 4] = [4, 6, 8, 16];
 
 /// The most boxes of a list.
-const MOST_BOXES: u32 = 6;
+const MOST_BOXES: usize = 6;
 
 /// The most leaves of a tree.
-const MOST_LEAVES: u32 = 30;
+const MOST_LEAVES: usize = 30;
 
 /// Names are below this.
 pub const NAMES: u32 = 6;
@@ -19,27 +33,52 @@ const LEAVES: [u32; 16] = [0, 0, 0, 0, 0, 0, 0, 0, 1, 1, 1, 1, 1, 5, 6, 6];
 /// Beyond the number of any box or name.
 const FAR: u32 = 1000;
 
-/// The tables drawn from a seed. Most can be answered; of eight one has a fault, and one has two.
-pub fn tables(seed: u32) -> Tables {
-    let mut draws = Draws::new(seed);
-    let mut tables = Tables::default();
-    draws.mood = draws.below(16);
-    let columns = 1 + draws.below(MOST_BOXES);
-    tables.records = draws.boxes(columns, 9, &[]);
-    let literals = 1 + draws.below(MOST_BOXES);
-    tables.literals = draws.boxes(literals, 8, &tables.records.ends);
-    let base = draws.below(NAMES);
-    tables.names = (base..base + columns).map(|name| name % NAMES).collect();
-    tables.nodes = draws.nodes(columns, literals, base);
-    for _ in 6..=draws.below(8) {
-        draws.spoil(&mut tables);
+impl Random<'_> {
+    /// Tables. Most can be answered; of eight one has a fault, and one has two.
+    pub fn tables(&mut self) -> Tables {
+        let intervals = &INTERVALS[..DOWN_TO[self.below(4)]];
+        let columns = 1 + self.below(MOST_BOXES);
+        let records = self.boxes(intervals, columns, 9, &[]);
+        let literals = 1 + self.below(MOST_BOXES);
+        let base = self.name();
+        let mut tables = Tables {
+            literals: self.boxes(intervals, literals, 8, &records.ends),
+            names: (base..base + columns as u32)
+                .map(|name| name % NAMES)
+                .collect(),
+            nodes: self.nodes(columns, literals, base),
+            records,
+        };
+        for _ in 6..=self.below(8) {
+            self.spoil(&mut tables);
+        }
+        tables
     }
-    tables
-}
 
-impl Draws {
+    pub fn name(&mut self) -> u32 {
+        self.below(NAMES as usize) as u32
+    }
+
+    /// Draws the doubles of tables anew, of every kind. The lists stay as long as they were, so that
+    /// faults stay.
+    pub fn redraw(&mut self, tables: &mut Tables) {
+        let (records, literals) = (&mut tables.records.ends, &mut tables.literals.ends);
+        // A list that was cut has no whole number of boxes.
+        let first = records.len().next_multiple_of(8);
+        let doubles = self.doubles(first + literals.len().next_multiple_of(8), first);
+        let (record_ends, literal_ends) = doubles.split_at(first);
+        replace(records, record_ends);
+        replace(literals, literal_ends);
+    }
+
     /// So many boxes, some of them copied from known ones. Of nine flags one is 0.
-    fn boxes(&mut self, count: u32, flags: u32, known: &[f64]) -> Boxes {
+    fn boxes(
+        &mut self,
+        intervals: &[[f64; 2]],
+        count: usize,
+        flags: usize,
+        known: &[f64],
+    ) -> Boxes {
         let mut boxes = Boxes::default();
         for _ in 0..count {
             let flag = match self.below(flags) {
@@ -47,33 +86,36 @@ impl Draws {
                 n => n as u8 % 4 * 2 + 1,
             };
             boxes.flags.push(flag);
-            let place = self.below(2 * MOST_BOXES) as usize;
+            let place = self.below(2 * MOST_BOXES);
             match known.chunks(8).nth(place) {
                 Some(ends) => boxes.ends.extend(ends),
-                None => boxes.ends.extend((0..4).flat_map(|_| self.ends())),
+                None => boxes
+                    .ends
+                    .extend((0..4).flat_map(|_| self.moved(intervals))),
             }
         }
         boxes
     }
 
-    fn ends(&mut self) -> [f64; 2] {
-        let interval = self.interval();
-        [interval.lo(), interval.hi()]
+    /// An interval of the list, moved by tenths.
+    fn moved(&mut self, intervals: &[[f64; 2]]) -> [f64; 2] {
+        let by = self.below(256) as f64 / 10.0;
+        intervals[self.below(intervals.len())].map(|end| end + by)
     }
 
     /// A tree: each node is a leaf, or pairs two of those that are no child yet.
-    fn nodes(&mut self, columns: u32, literals: u32, base: u32) -> Vec<u32> {
+    fn nodes(&mut self, columns: usize, literals: usize, base: u32) -> Vec<u32> {
         let most = 1 + self.below(MOST_LEAVES);
         let mut leaves = 1 + self.below(most);
         let mut open = Vec::new();
         let mut nodes = Vec::new();
-        for node in 0..2 * leaves - 1 {
+        for node in 0..2 * leaves as u32 - 1 {
             let is_pair = self.below(2) == 0;
             if open.len() >= 2 && (is_pair || leaves == 0) {
-                let kind = 3 + self.below(2);
+                let kind = 3 + self.below(2) as u32;
                 let [left, right] = std::array::from_fn(|_| {
-                    let place = self.below(open.len() as u32);
-                    open.swap_remove(place as usize)
+                    let place = self.below(open.len());
+                    open.swap_remove(place)
                 });
                 nodes.extend([kind, left, right, FAR]);
             } else {
@@ -86,23 +128,23 @@ impl Draws {
     }
 
     /// A leaf. Its name, which is not its index's, can be unknown; what is unread is far off.
-    fn leaf(&mut self, columns: u32, literals: u32, base: u32) -> [u32; 4] {
-        let kind = LEAVES[self.below(16) as usize];
+    fn leaf(&mut self, columns: usize, literals: usize, base: u32) -> [u32; 4] {
+        let kind = LEAVES[self.below(LEAVES.len())];
         if kind > 1 {
             return [kind, FAR, FAR, FAR];
         }
-        let index = self.below(columns);
-        let name = (base + self.below(columns + 1)) % NAMES;
-        let literal = self.below(literals);
+        let index = self.below(columns) as u32;
+        let name = (base + self.below(columns + 1) as u32) % NAMES;
+        let literal = self.below(literals) as u32;
         [kind, index, name, literal]
     }
 
     /// Makes a fault, or now and then none.
     fn spoil(&mut self, tables: &mut Tables) {
         let fault = self.below(12);
-        let word = self.draw() as usize % tables.nodes.len();
-        let place = self.below(MOST_BOXES) as usize;
-        let value = self.below(9);
+        let word = self.below(tables.nodes.len());
+        let place = self.below(MOST_BOXES);
+        let value = self.below(9) as u32;
         let name = tables.names.first().copied().unwrap_or(0);
         match fault {
             0 => cut(&mut tables.nodes),
@@ -130,6 +172,11 @@ fn put<T>(list: &mut [T], place: usize, value: T) {
     }
 }
 
+/// Replaces each of a list by the drawn one in its place.
+fn replace(list: &mut [f64], drawn: &[f64]) {
+    list.copy_from_slice(&drawn[..list.len()]);
+}
+
 #[cfg(test)]
 mod tests {
     use super::*;
@@ -137,11 +184,13 @@ mod tests {
 
     #[test]
     fn all_answers_are_drawn() {
-        let both = |seed| {
-            let lookups = [Lookup::ByPosition, Lookup::ByName];
-            lookups.map(|lookup| tables(seed).evaluate(lookup).text())
-        };
-        let answers: Vec<String> = (0..10_000).flat_map(both).collect();
+        let mut random = Random::new(1, &[]);
+        let answers: Vec<String> = (0..10_000)
+            .map(|_| random.tables())
+            .flat_map(|tables| {
+                [Lookup::ByPosition, Lookup::ByName].map(|lookup| tables.evaluate(lookup).text())
+            })
+            .collect();
         let count = |text: &str| answers.iter().filter(|answer| *answer == text).count();
         assert!(count("may match") > 5_000 && count("cannot match") > 5_000);
         for number in 4..=11 {

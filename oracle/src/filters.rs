@@ -1,8 +1,7 @@
 //! Filters: the tables that lines of a case file set, and what the Rust answers over them.
 
-use crate::answer::{Answer, Digest};
+use crate::answer::Answer;
 use crate::bounding_box::BoundingBox;
-use crate::filter_draws::{NAMES, tables};
 use crate::interval::{Interval, IntervalTrait, WraparoundInterval};
 use crate::refusals::check;
 use crate::shims::datafusion_physical_expr::expressions::Column;
@@ -11,7 +10,7 @@ use crate::statistics::GeoStatistics;
 use crate::text;
 
 /// The most words of a line, and of a chain: one node more than a filter may have.
-const MOST_WORDS: usize = 48;
+pub const MOST_WORDS: usize = 48;
 const MOST_CHAIN: usize = 4100;
 
 /// What is lent to a call.
@@ -51,6 +50,22 @@ impl Tables {
             _ => return None,
         }
         Some(())
+    }
+
+    /// The lines that set these tables.
+    pub fn lines(&self) -> String {
+        let Tables {
+            literals, records, ..
+        } = self;
+        [
+            text::write_line("nodes", &written(&self.nodes)),
+            text::write_line("literals", &text::write_operands(&literals.ends)),
+            text::write_line("literal_flags", &written(&literals.flags)),
+            text::write_line("records", &text::write_operands(&records.ends)),
+            text::write_line("record_flags", &written(&records.flags)),
+            text::write_line("names", &written(&self.names)),
+        ]
+        .concat()
     }
 
     /// Sets the nodes to the first so many words of a chain. It hands the answer of its lowest node
@@ -144,23 +159,12 @@ pub fn bounds(ends: &[f64], flags: u8) -> BoundingBox {
     BoundingBox::xyzm(x, interval(1), known(2, 2), known(3, 4))
 }
 
-/// The digest of the calls over so many drawn tables, the first drawn from a seed and each other
-/// from the next: by position, by name, and a box for each name.
-pub fn filter_tables(seed: u32, count: u32) -> Digest {
-    let mut digest = Digest::default();
-    for i in 0..count {
-        let tables = tables(seed.wrapping_add(i));
-        digest.add(&tables.evaluate(Lookup::ByPosition));
-        digest.add(&tables.evaluate(Lookup::ByName));
-        for name in 0..NAMES {
-            digest.add(&tables.filter_bbox(name));
-        }
-    }
-    digest
-}
-
 fn read_flag(word: &str) -> Option<u8> {
     text::read_set(word)?.try_into().ok()
+}
+
+fn written<T: ToString>(list: &[T]) -> Vec<String> {
+    list.iter().map(T::to_string).collect()
 }
 
 fn read_list<T>(words: &[&str], read: fn(&str) -> Option<T>) -> Option<Vec<T>> {

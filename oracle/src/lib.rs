@@ -5,7 +5,6 @@ pub mod answer;
 pub mod answers;
 pub mod calls;
 pub mod cases;
-pub mod draws;
 pub mod filter_draws;
 pub mod filters;
 pub mod operands;

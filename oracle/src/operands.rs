@@ -1,5 +1,5 @@
-//! What calls take, doubles, boxes, type sets, records and seeds: how a line spells them, and all that
-//! sweeps go over.
+//! What calls take, doubles, boxes, type sets and records: how a line spells them, and all that sweeps
+//! go over.
 
 use crate::bounding_box::BoundingBox;
 use crate::interval::{Interval, IntervalTrait, WraparoundInterval};
@@ -21,8 +21,6 @@ pub enum Kind {
     Box,
     Set,
     Record,
-    /// What a list of records is drawn from.
-    Seed,
 }
 
 pub enum Operand {
@@ -30,29 +28,22 @@ pub enum Operand {
     Box(BoundingBox),
     Set(Set),
     Record(GeoStatistics),
-    Seed(u32),
 }
 
 impl Kind {
     /// How many words spell one.
     pub fn width(self) -> usize {
         match self {
-            Kind::Double | Kind::Set | Kind::Seed => 1,
+            Kind::Double | Kind::Set => 1,
             Kind::Box => 8,
             Kind::Record => 18,
         }
-    }
-
-    /// Whether sweeps go over it.
-    pub fn is_listed(self) -> bool {
-        !matches!(self, Kind::Record | Kind::Seed)
     }
 
     fn read(self, words: &[&str]) -> Option<Operand> {
         match (self, words) {
             (Kind::Double, [word]) => text::read(word).map(Operand::Double),
             (Kind::Set, [word]) => text::read_set(word).map(|bits| set(&bits)),
-            (Kind::Seed, [word]) => text::read_set(word).map(Operand::Seed),
             (Kind::Box, words) => read_box(words).map(Operand::Box),
             (Kind::Record, words) => records::read(words).map(Operand::Record),
             _ => None,
@@ -136,7 +127,7 @@ impl Lists {
             Kind::Double => self.values.iter().copied().map(Operand::Double).collect(),
             Kind::Box => self.boxes(),
             Kind::Set => self.sets.iter().map(set).collect(),
-            Kind::Record | Kind::Seed => Vec::new(),
+            Kind::Record => Vec::new(),
         }
     }
 
@@ -222,5 +213,4 @@ taken! {
     BoundingBox: Box;
     Set: Set;
     GeoStatistics: Record;
-    u32: Seed;
 }

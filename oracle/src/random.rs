@@ -1,7 +1,7 @@
 //! Random cases over all calls.
 
 use crate::calls::Call;
-use crate::filter_draws::NAMES;
+use crate::filters::MOST_WORDS;
 use crate::operands::{Kind, MISSING};
 use crate::records::TOTALS;
 use crate::text::{write_line, write_operands};
@@ -63,33 +63,25 @@ impl Random<'_> {
                 Kind::Box => own[4..].chunks_exact_mut(2).for_each(|z| self.lose(z)),
                 Kind::Set => own[0] = self.set().to_string(),
                 Kind::Record => self.shape_record(own),
-                Kind::Seed => own[0] = (self.bits() as u32).to_string(),
             }
             rest = others;
         }
         words
     }
 
-    /// The filter calls over drawn tables, half of the time with boxes from here.
+    /// The filter calls over drawn tables whose nodes fit into a line, half of the time with doubles
+    /// of every kind.
     fn filter_case(&mut self) -> String {
-        let mut lines = write_line("draw", &[(self.bits() as u32).to_string()]);
-        if self.below(2) == 0 {
-            lines += &self.boxes("records", "record_flags", &[0, 1, 3, 5, 7]);
-            lines += &self.boxes("literals", "literal_flags", &[1, 3, 5, 7]);
-            let first = self.below(NAMES as usize) as u32;
-            let names = [0, 1, 2, 3, 4].map(|place| ((first + place) % NAMES).to_string());
-            lines += &write_line("names", &names);
+        let mut tables = self.tables();
+        while tables.nodes.len() > MOST_WORDS {
+            tables = self.tables();
         }
-        lines += "SpatialFilter::evaluate_by_position\nSpatialFilter::evaluate_by_name\n";
-        let name = self.below(NAMES as usize).to_string();
-        lines + &write_line("SpatialFilter::filter_bbox", &[name])
-    }
-
-    /// Five boxes, and their flags.
-    fn boxes(&mut self, ends: &str, flags: &str, good: &[u8]) -> String {
-        let doubles = self.doubles(5 * Kind::Box.width(), Kind::Box.width());
-        let drawn = [(); 5].map(|()| good[self.below(good.len())].to_string());
-        write_line(ends, &write_operands(&doubles)) + &write_line(flags, &drawn)
+        if self.below(2) == 0 {
+            self.redraw(&mut tables);
+        }
+        let calls = "SpatialFilter::evaluate_by_position\nSpatialFilter::evaluate_by_name\n";
+        let name = self.name().to_string();
+        tables.lines() + calls + &write_line("SpatialFilter::filter_bbox", &[name])
     }
 
     /// Doubles, two and two shaped as intervals. Of a second operand, which comes behind a `first`

@@ -1,11 +1,10 @@
 // What lines leave for later ones: the lists that sweeps go over, and the tables of filter calls.
+use crate::tables::MOST_NODE_WORDS;
+use crate::tables::Nodes;
+use crate::tables::Tables;
+use crate::tables::set_chain;
+use crate::tables::set_nodes;
 use check::same;
-use replay_filters::filter_draws::draw_tables;
-use replay_filters::tables::MOST_NODE_WORDS;
-use replay_filters::tables::Nodes;
-use replay_filters::tables::Tables;
-use replay_filters::tables::set_chain;
-use replay_filters::tables::set_nodes;
 use replay_geometry::boxes::MOST_INTERVALS;
 use replay_geometry::names::Call;
 use replay_geometry::sweep::sweep;
@@ -36,10 +35,8 @@ const NODES: usize = 8;
 
 const CHAIN: usize = 9;
 
-const DRAW: usize = 10;
-
 // Of a line that sets nothing.
-pub const NO_SETTING: usize = 11;
+pub const NO_SETTING: usize = 10;
 
 // What a line sets, by its first word.
 pub fn setting_named(first: &[u8]) -> usize {
@@ -82,9 +79,6 @@ fn nodes_named(first: &[u8]) -> usize {
     }
     if same(first, b"chain") {
         return CHAIN;
-    }
-    if same(first, b"draw") {
-        return DRAW;
     }
     NO_SETTING
 }
@@ -129,10 +123,7 @@ impl Kept {
         if setting == NODES {
             return self.with_nodes(words, nodes);
         }
-        if setting == CHAIN {
-            return self.with_chain(words, nodes);
-        }
-        self.with_draw(words, nodes)
+        self.with_chain(words, nodes)
     }
 
     // With other doubles. The ends of intervals are pairs, and no more than a list of them has.
@@ -186,33 +177,6 @@ impl Kept {
             set_chain(nodes);
             kept.node_words = count;
         }
-        kept
-    }
-
-    // With tables that are drawn.
-    fn with_draw(self, words: Words, nodes: &mut Nodes) -> Kept {
-        let mut kept = self;
-        kept.is_good = words.is_number();
-        if kept.is_good {
-            return kept.with_tables(draw_tables(words.sets[0], nodes));
-        }
-        kept
-    }
-
-    // With other tables.
-    fn with_tables(self, tables: Tables) -> Kept {
-        let literals = tables.literals;
-        let records = tables.records;
-        let names = tables.names;
-        let literal_flags = tables.literal_flags;
-        let record_flags = tables.record_flags;
-        let mut kept = self;
-        kept.doubles[LITERALS] = literals;
-        kept.doubles[RECORDS] = records;
-        kept.sets[NAMES - SETS] = names;
-        kept.flags[0] = literal_flags;
-        kept.flags[1] = record_flags;
-        kept.node_words = tables.node_words;
         kept
     }
 

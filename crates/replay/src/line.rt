@@ -1,19 +1,21 @@
 // The lines of a case file: comments are copied; `values V V ..`, `intervals LO HI ..` and
 // `sets S S ..` set the lists that sweeps go over; `nodes W W ..`, `literals D D ..` and so on set
-// the tables of filter calls, as do `chain COUNT` and `draw SEED`; `sweep CALL`,
-// `folds SEED COUNT`, `filters SEED COUNT` and `CALL V V ..` are answered.
+// the tables of filter calls, as does `chain COUNT`; `sweep CALL` and `CALL V V ..` are answered.
+use crate::filters::put_call_of_tables;
 use crate::kept::Kept;
 use crate::kept::NO_SETTING;
 use crate::kept::setting_named;
+use crate::names::FILTER;
+use crate::names::STATISTICS;
+use crate::names::call_named;
+use crate::records::put_call_of_records;
+use crate::tables::Nodes;
 use bytes::scan::find;
 use check::same;
-use replay_filters::calls as filter_calls;
-use replay_filters::filters::filter_tables;
-use replay_filters::tables::Nodes;
-use replay_geometry::calls as geometry_calls;
-use replay_geometry::names as geometry_names;
-use replay_records::calls as record_calls;
-use replay_records::folds::fold_lists;
+use replay_geometry::answer::put_answer;
+use replay_geometry::calls::answer_to;
+use replay_geometry::names as geometry;
+use replay_geometry::names::Call;
 use replay_text::digest::put_swept;
 use replay_text::output::Buffer;
 use replay_text::output::put;
@@ -89,7 +91,7 @@ fn take_case(
     Outcome { kept, filled: at }
 }
 
-// Puts the answer to a sweep, a digest, or a single case.
+// Puts the answer to a sweep, or to a single case.
 fn put_reply(
     out: &mut Buffer,
     filled: usize,
@@ -102,13 +104,11 @@ fn put_reply(
     if same(first, b"sweep") {
         return put_sweep(out, filled, rest, kept);
     }
-    if same(first, b"folds") {
-        return put_drawn(out, filled, words, false);
+    let call = call_named(first);
+    if words.count != call.operands {
+        return put_unknown(out, filled);
     }
-    if same(first, b"filters") {
-        return put_drawn(out, filled, words, true);
-    }
-    put_case(out, filled, first, words, kept, nodes)
+    put_call(out, filled, call, words, kept, nodes)
 }
 
 // Puts that there is no answer.
@@ -116,52 +116,31 @@ fn put_unknown(out: &mut Buffer, filled: usize) -> usize {
     put(out, filled, b'?')
 }
 
-// A `sweep` line: the rest of it is a space and the name of a call.
+// A `sweep` line: the rest of it is a space and the name of a call whose operands are in the lists.
 fn put_sweep(out: &mut Buffer, filled: usize, rest: &[u8], kept: Kept) -> usize {
     if rest.len() == 0 {
         return put_unknown(out, filled);
     }
-    let name = &rest[1..];
-    let of_records = record_calls::call_named(name);
-    if of_records < record_calls::NO_CALL {
-        return put_swept(out, filled, record_calls::sweep(of_records));
-    }
-    let call = geometry_names::call_named(name);
+    let call = geometry::call_named(&rest[1..]);
     if call.is_known() {
         return put_swept(out, filled, kept.swept(call));
     }
     put_unknown(out, filled)
 }
 
-// A line with the first seed and how many are drawn from it on: lists of records, or tables.
-fn put_drawn(out: &mut Buffer, filled: usize, words: Words, is_of_tables: bool) -> usize {
-    if !words.are_sets || words.count != 2 {
-        return put_unknown(out, filled);
-    }
-    let seed = words.sets[0];
-    let count = words.sets[1];
-    if is_of_tables {
-        return put_swept(out, filled, filter_tables(seed, count));
-    }
-    put_swept(out, filled, fold_lists(seed, count))
-}
-
-// A single case, over the tables or by its operands.
-fn put_case(
+// Puts what a call answers to the words of a line, which are as many as it takes, or over the tables.
+fn put_call(
     out: &mut Buffer,
     filled: usize,
-    first: &[u8],
+    call: Call,
     words: Words,
     kept: Kept,
     nodes: &Nodes,
 ) -> usize {
-    let of_filters = filter_calls::call_named(first);
-    if of_filters < filter_calls::NO_CALL {
-        return filter_calls::put_call(out, filled, of_filters, words, nodes, kept.tables());
+    let owner = call.owner;
+    match owner {
+        STATISTICS => put_call_of_records(out, filled, call, words),
+        FILTER => put_call_of_tables(out, filled, call, words, nodes, kept.tables()),
+        _ => put_answer(out, filled, answer_to(call, words)),
     }
-    let of_records = record_calls::call_named(first);
-    if of_records < record_calls::NO_CALL {
-        return record_calls::put_call(out, filled, of_records, words);
-    }
-    geometry_calls::put_call(out, filled, geometry_names::call_named(first), words)
 }

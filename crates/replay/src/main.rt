@@ -1,7 +1,13 @@
 // Reads cases from standard input and writes them, with their answers, to standard output. Each
 // byte is copied as it is read; before the end of a line comes the reply to it.
+mod filters;
 mod kept;
+mod lent;
 mod line;
+mod names;
+mod record_text;
+mod records;
+mod tables;
 
 use kept::Kept;
 use libc::STDIN_FILENO;
@@ -9,11 +15,11 @@ use line::Line;
 use line::SIZE;
 use line::push;
 use line::take_line;
-use replay_filters::tables::MOST_NODE_WORDS;
-use replay_filters::tables::Nodes;
 use replay_text::output::Buffer;
 use replay_text::output::flush;
 use replay_text::output::put;
+use tables::MOST_NODE_WORDS;
+use tables::Nodes;
 
 // What is kept from one byte of the input to the next.
 struct State {

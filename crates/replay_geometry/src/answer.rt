@@ -80,19 +80,18 @@ pub fn put_answer(out: &mut Buffer, filled: usize, answer: Answer) -> usize {
         Answer::Double(x) => put_double(out, filled, x),
         Answer::Number(n) => put_decimal(out, filled, n),
         Answer::Ends(i) => put_ends(out, filled, i),
-        Answer::Split(pieces) => {
-            let at = put_ends(out, filled, pieces.left);
-            let at = put(out, at, b' ');
-            put_ends(out, at, pieces.right)
-        }
+        Answer::Split(pieces) => put_pieces(out, filled, pieces),
         Answer::Box(b) => put_box(out, filled, b),
         Answer::Accepted(i) => put_ends(out, filled, i),
         Answer::AcceptedBox(b) => put_box(out, filled, b),
-        Answer::Refused(number) => {
-            let at = put_all(out, filled, b"refused ");
-            put_decimal(out, at, number as u64)
-        }
+        Answer::Refused(number) => put_refused(out, filled, number),
     }
+}
+
+// Puts the number of a refusal.
+pub fn put_refused(out: &mut Buffer, filled: usize, number: u32) -> usize {
+    let at = put_all(out, filled, b"refused ");
+    put_decimal(out, at, number as u64)
 }
 
 // Puts `true` or `false`.
@@ -109,6 +108,13 @@ fn put_ends(out: &mut Buffer, filled: usize, i: Interval) -> usize {
     let at = put_double(out, filled, i.lo);
     let at = put(out, at, b' ');
     put_double(out, at, i.hi)
+}
+
+// Puts the ends of two pieces.
+fn put_pieces(out: &mut Buffer, filled: usize, pieces: Pieces) -> usize {
+    let at = put_ends(out, filled, pieces.left);
+    let at = put(out, at, b' ');
+    put_ends(out, at, pieces.right)
 }
 
 // Puts the ends of x, y, z and m.

@@ -5,13 +5,11 @@ use crate::answer::converted;
 use crate::answer::ends;
 use crate::answer::intersected;
 use crate::answer::of_set;
-use crate::answer::put_answer;
 use crate::boxes::BOX;
 use crate::boxes::are_boxes;
 use crate::boxes::box_at;
 use crate::lent::updated;
 use crate::names::*;
-use replay_text::output::Buffer;
 use replay_text::words::Words;
 use sedona_geometry::bounding_box::BoundingBox;
 use sedona_geometry::float;
@@ -19,16 +17,16 @@ use sedona_geometry::interval::Interval;
 use sedona_geometry::interval::WraparoundInterval;
 use sedona_geometry::types::GeometryTypeAndDimensionsSet;
 
-// Puts what a call answers to the words of a line.
-pub fn put_call(out: &mut Buffer, filled: usize, call: Call, words: Words) -> usize {
-    put_answer(out, filled, answer_to(call, words))
+// The operands of a call that takes doubles. (Fields, since each place of an array is a proof more.)
+pub struct Four {
+    pub a: f64,
+    pub b: f64,
+    pub c: f64,
+    pub d: f64,
 }
 
-// What a call answers to the words of a line.
-fn answer_to(call: Call, words: Words) -> Answer {
-    if words.count != call.operands {
-        return Answer::Unknown;
-    }
+// What a call answers to the words of a line, which are as many as it takes.
+pub fn answer_to(call: Call, words: Words) -> Answer {
     match call.takes() {
         Takes::Doubles => answer_to_doubles(call, words),
         Takes::Boxes => answer_to_boxes(call, words),
@@ -42,7 +40,13 @@ fn answer_to_doubles(call: Call, words: Words) -> Answer {
         return Answer::Unknown;
     }
     let v = words.doubles;
-    make(call, [v[0], v[1], v[2], v[3]])
+    let operands = Four {
+        a: v[0],
+        b: v[1],
+        c: v[2],
+        d: v[3],
+    };
+    make(call, operands)
 }
 
 // The words are boxes.
@@ -63,7 +67,7 @@ fn answer_to_sets(call: Call, words: Words) -> Answer {
 }
 
 // Makes a call that takes doubles.
-pub fn make(call: Call, v: [f64; 4]) -> Answer {
+pub fn make(call: Call, v: Four) -> Answer {
     let owner = call.owner;
     let name = call.name;
     match owner {
@@ -76,10 +80,10 @@ pub fn make(call: Call, v: [f64; 4]) -> Answer {
 }
 
 // The operands: `LO HI`, then a value or the other's `LO HI`.
-fn make_of_interval(name: u8, v: [f64; 4]) -> Answer {
-    let i = Interval::new(v[0], v[1]);
-    let value = v[2];
-    let other = Interval::new(v[2], v[3]);
+fn make_of_interval(name: u8, v: Four) -> Answer {
+    let i = Interval::new(v.a, v.b);
+    let value = v.c;
+    let other = Interval::new(v.c, v.d);
     match name {
         NEW => Answer::Ends(i),
         EMPTY => Answer::Ends(Interval::empty()),
@@ -108,10 +112,10 @@ fn test_of_interval(name: u8, i: Interval, value: f64, other: Interval) -> Answe
 }
 
 // The operands are as for `Interval`.
-fn make_of_wraparound_interval(name: u8, v: [f64; 4]) -> Answer {
-    let x = WraparoundInterval::new(v[0], v[1]);
-    let value = v[2];
-    let other = WraparoundInterval::new(v[2], v[3]);
+fn make_of_wraparound_interval(name: u8, v: Four) -> Answer {
+    let x = WraparoundInterval::new(v.a, v.b);
+    let value = v.c;
+    let other = WraparoundInterval::new(v.c, v.d);
     match name {
         NEW => ends(x),
         EMPTY => ends(WraparoundInterval::empty()),
@@ -122,8 +126,20 @@ fn make_of_wraparound_interval(name: u8, v: [f64; 4]) -> Answer {
         MERGE_VALUE => ends(x.merge_value(value)),
         EXPAND_BY => ends(x.expand_by(value)),
         INTERSECTION => intersected(x.intersection(other)),
+        FROM_INTERVAL => ends(WraparoundInterval::from_interval(Interval::new(v.a, v.b))),
+        _ => part_of_wraparound_interval(name, x, value, other),
+    }
+}
+
+// The calls that plain intervals do not have, and give no x.
+fn part_of_wraparound_interval(
+    name: u8,
+    x: WraparoundInterval,
+    value: f64,
+    other: WraparoundInterval,
+) -> Answer {
+    match name {
         SPLIT => Answer::Split(x.split()),
-        FROM_INTERVAL => ends(WraparoundInterval::from_interval(Interval::new(v[0], v[1]))),
         TRY_INTO_INTERVAL => converted(x.try_into_interval()),
         _ => test_of_wraparound_interval(name, x, value, other),
     }
@@ -148,22 +164,22 @@ fn test_of_wraparound_interval(
 }
 
 // The operands are one number or two.
-fn make_of_float(name: u8, v: [f64; 4]) -> Answer {
+fn make_of_float(name: u8, v: Four) -> Answer {
     match name {
-        MIN => Answer::Double(float::min(v[0], v[1])),
-        MAX => Answer::Double(float::max(v[0], v[1])),
-        ABS => Answer::Double(float::abs(v[0])),
+        MIN => Answer::Double(float::min(v.a, v.b)),
+        MAX => Answer::Double(float::max(v.a, v.b)),
+        ABS => Answer::Double(float::abs(v.a)),
         INFINITY => Answer::Double(float::infinity()),
         _ => Answer::Unknown,
     }
 }
 
 // The operands are the ends of x and y, or none.
-fn make_of_ends(name: u8, v: [f64; 4]) -> Answer {
+fn make_of_ends(name: u8, v: Four) -> Answer {
     match name {
         XY => Answer::Box(BoundingBox::xy(
-            WraparoundInterval::new(v[0], v[1]),
-            Interval::new(v[2], v[3]),
+            WraparoundInterval::new(v.a, v.b),
+            Interval::new(v.c, v.d),
         )),
         EMPTY => Answer::Box(BoundingBox::empty()),
         _ => Answer::Unknown,

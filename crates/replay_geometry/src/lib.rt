@@ -1,9 +1,8 @@
-// The calls of sedona_geometry in the case language: single cases, sweeps, and what draws make.
+// The calls of sedona_geometry in the case language: single cases and sweeps.
 pub mod answer;
 pub mod boxes;
 pub mod calls;
 mod digits;
-pub mod draws;
 mod lent;
 pub mod names;
 pub mod sweep;

@@ -22,7 +22,7 @@ pub(crate) const UNKNOWN: u8 = 0;
 
 pub(crate) const NEW: u8 = 1;
 
-pub(crate) const EMPTY: u8 = 2;
+pub const EMPTY: u8 = 2;
 
 pub(crate) const FULL: u8 = 3;
 
@@ -44,7 +44,7 @@ pub(crate) const IS_FULL: u8 = 11;
 
 pub(crate) const MERGE_INTERVAL: u8 = 12;
 
-pub(crate) const MERGE_VALUE: u8 = 13;
+pub const MERGE_VALUE: u8 = 13;
 
 pub(crate) const EXPAND_BY: u8 = 14;
 
@@ -80,7 +80,7 @@ pub(crate) const FROM_BITS: u8 = 29;
 
 pub(crate) const BITS: u8 = 30;
 
-pub(crate) const MERGE: u8 = 31;
+pub const MERGE: u8 = 31;
 
 pub(crate) const SIZE: u8 = 32;
 
@@ -88,8 +88,8 @@ pub(crate) const CLEAR: u8 = 33;
 
 // A row of the tables below.
 pub struct Call {
-    pub(crate) owner: u8,
-    pub(crate) name: u8,
+    pub owner: u8,
+    pub name: u8,
     // How many words its operands are.
     pub operands: usize,
 }
@@ -104,7 +104,7 @@ pub enum Takes {
 
 impl Call {
     // The head of a table, which is no call.
-    fn unknown(owner: u8) -> Call {
+    pub fn unknown(owner: u8) -> Call {
         Call {
             owner,
             name: UNKNOWN,
@@ -113,7 +113,7 @@ impl Call {
     }
 
     // A row of a table: its call where the word is its text, else what the rows above it gave.
-    fn row(self, word: &[u8], text: &[u8], name: u8, operands: usize) -> Call {
+    pub fn row(self, word: &[u8], text: &[u8], name: u8, operands: usize) -> Call {
         if same(word, text) {
             return Call {
                 owner: self.owner,

@@ -5,6 +5,7 @@ use crate::boxes::BOX;
 use crate::boxes::MOST_INTERVALS;
 use crate::boxes::TWO_BOXES;
 use crate::boxes::box_numbered;
+use crate::calls::Four;
 use crate::calls::make;
 use crate::calls::make_of_boxes;
 use crate::calls::make_of_sets;
@@ -111,14 +112,19 @@ fn turn_of_sets(number: usize, call: Call, sets: Sets) -> Turn {
 
 // Doubles, and what is left of a number whose last digits are their places.
 struct Tuple {
-    operands: [f64; 4],
+    operands: Four,
     rest: usize,
 }
 
 // So many doubles, by the last digits of a number.
 fn tuple_at(number: usize, operands: usize, values: Doubles) -> Tuple {
     let mut tuple = Tuple {
-        operands: [0.0; 4],
+        operands: Four {
+            a: 0.0,
+            b: 0.0,
+            c: 0.0,
+            d: 0.0,
+        },
         rest: number,
     };
     for _ in 0..operands {
@@ -134,7 +140,12 @@ impl Tuple {
         let digit = last_digit(self.rest, values.count);
         let at = digit.place % MOST_WORDS;
         Tuple {
-            operands: [values.list[at], v[0], v[1], v[2]],
+            operands: Four {
+                a: values.list[at],
+                b: v.a,
+                c: v.b,
+                d: v.c,
+            },
             rest: digit.rest,
         }
     }

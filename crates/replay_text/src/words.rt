@@ -148,91 +148,14 @@ pub struct Doubles {
     pub count: usize,
 }
 
-impl Doubles {
-    // With two more.
-    pub fn with_two(self, first: f64, second: f64) -> Doubles {
-        let at = self.count % (MOST_WORDS - 1);
-        let mut list = self.list;
-        list[at] = first;
-        list[at + 1] = second;
-        Doubles {
-            list,
-            count: at + 2,
-        }
-    }
-
-    // Without the last.
-    pub fn cut(self) -> Doubles {
-        let list = self.list;
-        Doubles {
-            list,
-            count: less_one(self.count),
-        }
-    }
-}
-
 // A list of type sets, or of names.
 pub struct Sets {
     pub list: [u32; MOST_WORDS],
     pub count: usize,
 }
 
-impl Sets {
-    // With another at a place.
-    pub fn with_put(self, place: usize, set: u32) -> Sets {
-        let at = place % MOST_WORDS;
-        let mut sets = self;
-        sets.list[at] = set;
-        sets
-    }
-
-    // Without the last.
-    pub fn cut(self) -> Sets {
-        let list = self.list;
-        Sets {
-            list,
-            count: less_one(self.count),
-        }
-    }
-}
-
 // A list of flags of boxes.
 pub struct Flags {
     pub list: [u8; MOST_WORDS],
     pub count: usize,
-}
-
-impl Flags {
-    // With a flag more.
-    pub fn with(self, flag: u8) -> Flags {
-        let at = self.count % MOST_WORDS;
-        let mut list = self.list;
-        list[at] = flag;
-        Flags {
-            list,
-            count: at + 1,
-        }
-    }
-
-    // With another at a place.
-    pub fn with_put(self, place: usize, flag: u8) -> Flags {
-        let at = place % MOST_WORDS;
-        let mut flags = self;
-        flags.list[at] = flag;
-        flags
-    }
-
-    // Without the last.
-    pub fn cut(self) -> Flags {
-        let list = self.list;
-        Flags {
-            list,
-            count: less_one(self.count),
-        }
-    }
-}
-
-// A count less 1, where it is not 0.
-pub fn less_one(count: usize) -> usize {
-    if count == 0 { 0 } else { count - 1 }
 }

@@ -4,14 +4,13 @@ use crate::layout::{BOX_FLAGS, Bounds, PARTS, Record, Records};
 use johikape::Interval;
 use oracle::bounding_box::BoundingBox;
 use oracle::cases::VALUES;
-use oracle::filter_draws::{NAMES, tables};
 use oracle::filters::{Boxes, Tables};
 use oracle::random::Random;
 use std::array;
 use std::fmt::Display;
 
 /// The most records of a fold.
-const MOST_RECORDS: usize = 8;
+const MOST_RECORDS: usize = 40;
 
 /// Kinds of nodes.
 const AND: u32 = 3;
@@ -100,26 +99,33 @@ pub struct RecordCase {
 impl Case for RecordCase {
     fn draw(random: &mut Random) -> Self {
         let doubles = random.doubles(20, 10);
-        let [a, b] = array::from_fn(|place| record(random, &doubles[10 * place..]));
+        let [a, b] = array::from_fn(|place| record(random, &doubles[10 * place..], 8));
         RecordCase { a, b }
     }
 }
 
-/// A record of drawn doubles. Of eight records one has totals at the ends of their range; of 64
-/// one has any flags, and one a flag too many or too few.
-fn record(random: &mut Random, doubles: &[f64]) -> Record {
+/// A record of drawn doubles. One in so many of its parts is missing; of eight times as many records
+/// one has any flags, and one a flag too many or too few. Of eight one has totals at the ends of
+/// their range.
+fn record(random: &mut Random, doubles: &[f64], one_in: usize) -> Record {
     let is_at_ends = random.below(8) == 0;
-    let missing = random.bits() & random.bits() & random.bits();
-    let box_flags = match random.below(6) {
-        0 => 0,
-        n => BOX_FLAGS[n % 4],
-    };
-    let good = u32::from(box_flags) | PARTS & !missing as u32;
+    let mut good = u32::from(BOX_FLAGS[random.below(4)]);
+    if random.below(one_in) == 0 {
+        good = 0;
+    }
+    for part in (0..32)
+        .map(|place| 1 << place)
+        .filter(|part| PARTS & part != 0)
+    {
+        if random.below(one_in) > 0 {
+            good |= part;
+        }
+    }
     Record {
         doubles: array::from_fn(|place| doubles[place]),
         totals: array::from_fn(|_| random.total(is_at_ends)),
         types: random.set(),
-        flags: match random.below(64) {
+        flags: match random.below(8 * one_in) {
             0 => random.bits() as u32,
             1 => good ^ 1 << random.below(32),
             _ => good,
@@ -128,13 +134,16 @@ fn record(random: &mut Random, doubles: &[f64]) -> Record {
 }
 
 impl Case for Records {
-    /// Of eight folds one has a list that is too short or too long.
+    /// Of four folds one can be long; of eight one has a list that is too short or too long. The
+    /// parts of some lists are seldom missing, so that their sums are known to the end.
     fn draw(random: &mut Random) -> Self {
-        let count = random.below(MOST_RECORDS + 1);
+        let most = [8, 8, 8, MOST_RECORDS][random.below(4)];
+        let count = random.below(most + 1);
+        let one_in = [4, 16, 64, 1024][random.below(4)];
         let doubles = random.doubles(10 * count, 10);
         let mut records = Records::default();
         for doubles in doubles.chunks(10) {
-            records.push(&record(random, doubles));
+            records.push(&record(random, doubles, one_in));
         }
         let is_longer = random.below(2) == 0;
         match random.below(32) {
@@ -168,9 +177,9 @@ impl Case for FilterCase {
     /// four filters one has no And, so that it often may match; of 16 one has a fault of another
     /// kind; of 256 one is a deep chain, of up to more words than a filter may have.
     fn draw(random: &mut Random) -> Self {
-        let mut tables = tables(random.bits() as u32);
+        let mut tables = random.tables();
         if random.below(3) == 0 {
-            redraw(random, &mut tables);
+            random.redraw(&mut tables);
         }
         if random.below(4) == 0 {
             drop_ands(&mut tables.nodes);
@@ -185,7 +194,7 @@ impl Case for FilterCase {
         }
         FilterCase {
             tables,
-            name: random.below(NAMES as usize) as u32,
+            name: random.name(),
         }
     }
 }
@@ -223,20 +232,4 @@ fn drop_column(tables: &mut Tables) {
     records.ends.truncate(records.ends.len().saturating_sub(8));
     records.flags.pop();
     tables.names.pop();
-}
-
-/// Draws the doubles of tables anew. The lists stay as long as they were, so that faults stay.
-fn redraw(random: &mut Random, tables: &mut Tables) {
-    let (records, literals) = (&mut tables.records.ends, &mut tables.literals.ends);
-    // A list that was cut has no whole number of boxes.
-    let first = records.len().next_multiple_of(8);
-    let doubles = random.doubles(first + literals.len().next_multiple_of(8), first);
-    let (record_ends, literal_ends) = doubles.split_at(first);
-    replace(records, record_ends);
-    replace(literals, literal_ends);
-}
-
-/// Replaces each of a list by the drawn one in its place.
-fn replace(list: &mut [f64], drawn: &[f64]) {
-    list.copy_from_slice(&drawn[..list.len()]);
 }

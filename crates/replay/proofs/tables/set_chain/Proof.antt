@@ -1,8 +1,8 @@
 -- `tables::set_chain` is safe and ends. Assumes nothing.
 use Prim.Native.Nat.{_-_}
 use borrow.Author.Needs.{needs}
-use Rattle.replay_filters.proofs.tables.set_chain.Statement.{statement}
-use Rattle.replay_filters.proofs.tables.set_chain.Tie as tie
+use Rattle.replay.proofs.tables.set_chain.Statement.{statement}
+use Rattle.replay.proofs.tables.set_chain.Tie as tie
 
 abbrev Inv-loop : tie.InvT-loop
 Inv-loop nodes₀ at₀ nodes at = Unit

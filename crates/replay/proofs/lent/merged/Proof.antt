@@ -20,10 +20,10 @@ use Rattle.sedona_expr.proofs.statistics.GeoStatistics.merge as called
 use Rattle.sedona_expr.proofs.statistics.GeoStatistics.merge.Symbol as called-def
 use Rattle.sedona_expr.proofs.statistics.GeoStatistics.merge.Symbol.{name as #merge}
 use Rattle.sedona_expr.proofs.statistics.GeoStatistics.merge.Met as called-thm
-use Rattle.replay_records.proofs.lent.merged.Key.{name as #merged}
-use Rattle.replay_records.proofs.lent.merged as this
-use Rattle.replay_records.proofs.lent.merged.Statement as stated
-use Rattle.replay_records.proofs.lent.merged.Code as code
+use Rattle.replay.proofs.lent.merged.Key.{name as #merged}
+use Rattle.replay.proofs.lent.merged as this
+use Rattle.replay.proofs.lent.merged.Statement as stated
+use Rattle.replay.proofs.lent.merged.Code as code
 
 abbrev S : Kind
 S = struct-kind T.the-type

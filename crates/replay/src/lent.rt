@@ -19,20 +19,17 @@ pub fn merged(a: GeoStatistics, b: GeoStatistics) -> Merged
     Merged { number, rec: left }
 }
 
-// How many records a list has room for.
-pub const MOST_RECORDS: usize = 40;
-
 // The fold of the first records of a list, which are lent to `fold`. (The remainder changes no count
 // that a list can have.)
-pub fn folded(list: [GeoStatistics; MOST_RECORDS], count: usize) -> Folded
-    ensures { λ r. ⌜ r ≡ statistics.fold (take (count % 41) list) ⌝ }
+pub fn folded(list: [GeoStatistics; 2], count: usize) -> Folded
+    ensures { λ r. ⌜ r ≡ statistics.fold (take (count % 3) list) ⌝ }
 {
-    fold_first(list, count % (MOST_RECORDS + 1))
+    fold_first(list, count % 3)
 }
 
 // The same, of no more than there are.
-fn fold_first(list: [GeoStatistics; MOST_RECORDS], count: usize) -> Folded
-    requires { ⌜ count ≤ 40 ⌝ }
+fn fold_first(list: [GeoStatistics; 2], count: usize) -> Folded
+    requires { ⌜ count ≤ 2 ⌝ }
     ensures { λ r. ⌜ r ≡ statistics.fold (take count list) ⌝ }
 {
     fold(&list[..count])

@@ -1,14 +1,11 @@
-// A record, and the number of a call that gives one: their text, and their words in a digest.
+// A record, and the number of a call that gives one, as text.
 use replay_geometry::answer::put_box;
-use replay_geometry::answer::with_box;
-use replay_text::digest::Digest;
 use replay_text::output::Buffer;
 use replay_text::output::put;
 use replay_text::output::put_all;
 use replay_text::output::put_decimal;
 use replay_text::write::put_double;
 use replay_text::write::put_total;
-use replay_text::write::total_bits;
 use sedona_expr::statistics::Bbox;
 use sedona_expr::statistics::Extent;
 use sedona_expr::statistics::GeoStatistics;
@@ -103,79 +100,5 @@ fn put_extent(out: &mut Buffer, filled: usize, extent: Extent) -> usize {
             let at = put(out, filled, b' ');
             put_double(out, at, x)
         }
-    }
-}
-
-// A digest with a number and a record more.
-pub fn with_merged(digest: Digest, merged: Merged) -> Digest {
-    let rec = merged.rec;
-    with_statistics(digest.with_word(merged.number as u64), rec)
-}
-
-// A digest with a record more: its parts.
-fn with_statistics(digest: Digest, s: GeoStatistics) -> Digest {
-    let bbox = s.bbox;
-    let types = s.geometry_types;
-    let places = with_types(with_bbox(digest, bbox), types);
-    with_extents(with_counts(with_totals(places, s), s), s)
-}
-
-// A digest with the totals of a record more.
-fn with_totals(digest: Digest, s: GeoStatistics) -> Digest {
-    let geometries = s.total_geometries;
-    let size_bytes = s.total_size_bytes;
-    let points = s.total_points;
-    with_total(
-        with_total(with_total(digest, geometries), size_bytes),
-        points,
-    )
-}
-
-// A digest with the counts of a record more.
-fn with_counts(digest: Digest, s: GeoStatistics) -> Digest {
-    let puntal = s.puntal_count;
-    let lineal = s.lineal_count;
-    let polygonal = s.polygonal_count;
-    let collection = s.collection_count;
-    let two = with_total(with_total(digest, puntal), lineal);
-    with_total(with_total(two, polygonal), collection)
-}
-
-// A digest with the extents of a record more.
-fn with_extents(digest: Digest, s: GeoStatistics) -> Digest {
-    let width = s.total_envelope_width;
-    let height = s.total_envelope_height;
-    with_extent(with_extent(digest, width), height)
-}
-
-// A digest with the box of a record more: whether it is known, and then the box.
-fn with_bbox(digest: Digest, bbox: Bbox) -> Digest {
-    match bbox {
-        Bbox::Missing => digest.with_word(0),
-        Bbox::Known(b) => with_box(digest.with_word(1), b),
-    }
-}
-
-// A digest with a type set of a record more.
-fn with_types(digest: Digest, types: GeometryTypes) -> Digest {
-    match types {
-        GeometryTypes::Missing => digest.with_word(0),
-        GeometryTypes::Known(set) => digest.with_word(1).with_word(set.bits() as u64),
-    }
-}
-
-// A digest with a total more.
-fn with_total(digest: Digest, total: Total) -> Digest {
-    match total {
-        Total::Missing => digest.with_word(0),
-        Total::Known(n) => digest.with_word(1).with_word(total_bits(n)),
-    }
-}
-
-// A digest with an extent more.
-fn with_extent(digest: Digest, extent: Extent) -> Digest {
-    match extent {
-        Extent::Missing => digest.with_word(0),
-        Extent::Known(x) => digest.with_word(1).with_double(x),
     }
 }

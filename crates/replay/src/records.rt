@@ -1,7 +1,17 @@
-// Records of statistics as operands, spelled by the words of a line.
+// The calls of records of statistics, which the words of a line spell.
 ghost use Prim.Native.Nat.{_≤_};
+use crate::lent::folded;
+use crate::lent::merged;
+use crate::names::UNSPECIFIED;
+use crate::record_text::put_merged;
 use replay_geometry::boxes::box_at;
 use replay_geometry::boxes::is_box;
+use replay_geometry::names::Call;
+use replay_geometry::names::EMPTY;
+use replay_geometry::names::MERGE;
+use replay_geometry::names::MERGE_VALUE;
+use replay_text::output::Buffer;
+use replay_text::output::put;
 use replay_text::words::EXTENTS;
 use replay_text::words::MOST_WORDS;
 use replay_text::words::RECORD;
@@ -12,11 +22,46 @@ use sedona_expr::statistics::Bbox;
 use sedona_expr::statistics::Extent;
 use sedona_expr::statistics::GeoStatistics;
 use sedona_expr::statistics::GeometryTypes;
+use sedona_expr::statistics::Merged;
 use sedona_expr::statistics::Total;
 use sedona_geometry::types::GeometryTypeAndDimensionsSet;
 
+// Puts what a call answers to the words of a line, which are as many as it takes.
+pub fn put_call_of_records(out: &mut Buffer, filled: usize, call: Call, words: Words) -> usize {
+    if !are_records(words) {
+        return put(out, filled, b'?');
+    }
+    let first = record_at(words, 0);
+    let second = record_at(words, RECORD);
+    put_merged(out, filled, make(call, first, second))
+}
+
+// Makes a call with two records, of which it takes two, one or none.
+fn make(call: Call, s: GeoStatistics, other: GeoStatistics) -> Merged {
+    let name = call.name;
+    match name {
+        UNSPECIFIED => never_refused(GeoStatistics::unspecified()),
+        EMPTY => never_refused(GeoStatistics::empty()),
+        MERGE_VALUE => s.merge_value(other),
+        MERGE => merged(s, other),
+        _ => {
+            let out = folded([s, other], call.operands / RECORD);
+            let rec = out.rec;
+            Merged {
+                number: out.number,
+                rec,
+            }
+        }
+    }
+}
+
+// The answer of a call that is never refused.
+fn never_refused(rec: GeoStatistics) -> Merged {
+    Merged { number: 0, rec }
+}
+
 // Whether words are records: two, one or none.
-pub fn are_records(words: Words) -> bool {
+fn are_records(words: Words) -> bool {
     let missing = words.is_missing;
     words.are_parts && is_bbox(missing, 0) && is_bbox(missing, RECORD)
 }
@@ -35,16 +80,6 @@ fn is_bbox(missing: [bool; MOST_WORDS], at: usize) -> bool
         && missing[at + 5]
         && missing[at + 6]
         && missing[at + 7]
-}
-
-// The record that the first words spell.
-pub fn first_record(words: Words) -> GeoStatistics {
-    record_at(words, 0)
-}
-
-// The record that the words behind it spell.
-pub fn second_record(words: Words) -> GeoStatistics {
-    record_at(words, RECORD)
 }
 
 // The record that words from a place on spell.

@@ -46,7 +46,7 @@ use denote.Triple.Spec.{Meets, tripleOf}
 use denote.Triple.Walked.{Stays, stay-none, walkOf, AllGo, goes-none, Walks, ends-at, walked, walk-meets}
 use Rattle.sedona_geometry.proofs.Kind.{Kind, row, Laws, uint-kind, uint-laws}
 use Rattle.sedona_geometry.proofs.Says.{says-all, needs-of}
-use Rattle.replay_records.proofs.ArrayKind.{array-kind, array-laws}
+use Rattle.replay.proofs.ArrayKind.{array-kind, array-laws}
 use Rattle.replay_geometry.proofs.Lends.{into-memory, out-of-memory}
 
 -- ---- an array is its first elements and the rest

@@ -1,23 +1,61 @@
-// Filter calls over the tables that are lent to them, given or drawn.
-use crate::answer::with_evaluation;
-use crate::answer::with_filter_box;
-use crate::filter_draws::NAMES;
-use crate::filter_draws::draw_tables;
-use crate::filter_draws::word;
-use crate::tables::MOST_NODE_WORDS;
+// The calls of filters, over the tables that are lent to them.
+use crate::names::EVALUATE_BY_NAME;
+use crate::names::FILTER_BBOX;
 use crate::tables::Nodes;
 use crate::tables::Tables;
-use replay_text::digest::Digest;
-use replay_text::digest::Swept;
+use replay_geometry::answer::put_box;
+use replay_geometry::answer::put_refused;
+use replay_geometry::names::Call;
+use replay_text::output::Buffer;
+use replay_text::output::put;
+use replay_text::output::put_all;
+use replay_text::output::put_decimal;
 use replay_text::words::MOST_WORDS;
+use replay_text::words::Words;
 use sedona_expr::spatial_filter::Evaluation;
 use sedona_expr::spatial_filter::evaluate_by_name;
 use sedona_expr::spatial_filter::evaluate_by_position;
 use sedona_expr::spatial_filter::filter_bbox;
 use sedona_geometry::bounding_box::NumberedBox;
 
+// Puts what a call answers. `filter_bbox` takes a name, the others no word.
+pub fn put_call_of_tables(
+    out: &mut Buffer,
+    filled: usize,
+    call: Call,
+    words: Words,
+    nodes: &Nodes,
+    tables: Tables,
+) -> usize {
+    if !words.are_sets {
+        return put(out, filled, b'?');
+    }
+    if call.name == FILTER_BBOX {
+        return put_numbered(out, filled, bbox_of(nodes, tables, words.sets[0]));
+    }
+    let is_by_name = call.name == EVALUATE_BY_NAME;
+    put_evaluation(out, filled, evaluate(nodes, tables, is_by_name))
+}
+
+// Puts whether a filter may match, or the number that refuses it.
+fn put_evaluation(out: &mut Buffer, filled: usize, evaluation: Evaluation) -> usize {
+    match evaluation {
+        Evaluation::MayMatch => put_all(out, filled, b"may match"),
+        Evaluation::CannotMatch => put_all(out, filled, b"cannot match"),
+        Evaluation::Refused(number) => put_refused(out, filled, number),
+    }
+}
+
+// Puts a number and a box.
+fn put_numbered(out: &mut Buffer, filled: usize, filter_box: NumberedBox) -> usize {
+    let bounds = filter_box.bounds;
+    let at = put_decimal(out, filled, filter_box.number as u64);
+    let at = put(out, at, b' ');
+    put_box(out, at, bounds)
+}
+
 // Whether the filter may match, by position or by name.
-pub fn evaluate(nodes: &Nodes, tables: Tables, is_by_name: bool) -> Evaluation {
+fn evaluate(nodes: &Nodes, tables: Tables, is_by_name: bool) -> Evaluation {
     let literals = tables.literals;
     let literal_flags = tables.literal_flags;
     let records = tables.records;
@@ -43,7 +81,7 @@ pub fn evaluate(nodes: &Nodes, tables: Tables, is_by_name: bool) -> Evaluation {
 }
 
 // The filter box of the column of a name.
-pub fn bbox_of(nodes: &Nodes, tables: Tables, name: u32) -> NumberedBox {
+fn bbox_of(nodes: &Nodes, tables: Tables, name: u32) -> NumberedBox {
     let literals = tables.literals;
     let flags = tables.literal_flags;
     filter_bbox(
@@ -88,29 +126,4 @@ fn first_names<'a>(count: usize, list: &'a [u32; MOST_WORDS]) -> &'a [u32] {
         return &all[0..count];
     }
     all
-}
-
-// The calls over so many drawn tables, the first drawn from a seed and each other from the next.
-pub fn filter_tables(seed: u32, count: u32) -> Swept {
-    let mut nodes = [0; MOST_NODE_WORDS];
-    let mut digest = Digest::new();
-    for i in 0..count {
-        let tables = draw_tables(std::num::wrapping_add_u32(seed, i), &mut nodes);
-        digest = with_evaluation(digest, evaluate(&nodes, tables, false));
-        digest = with_evaluation(digest, evaluate(&nodes, tables, true));
-        digest = with_boxes(digest, &nodes, tables);
-    }
-    Swept {
-        count: count as usize,
-        digest,
-    }
-}
-
-// With the filter boxes of all names more.
-fn with_boxes(before: Digest, nodes: &Nodes, tables: Tables) -> Digest {
-    let mut digest = before;
-    for i in 0..NAMES {
-        digest = with_filter_box(digest, bbox_of(nodes, tables, word(i)));
-    }
-    digest
 }

@@ -1,8 +1,8 @@
 -- `tables::set_nodes` is safe and ends. Assumes nothing.
 use Prim.Native.Nat.{_-_}
 use borrow.Author.Needs.{needs}
-use Rattle.replay_filters.proofs.tables.set_nodes.Statement.{statement}
-use Rattle.replay_filters.proofs.tables.set_nodes.Tie as tie
+use Rattle.replay.proofs.tables.set_nodes.Statement.{statement}
+use Rattle.replay.proofs.tables.set_nodes.Tie as tie
 
 abbrev Inv-loop : tie.InvT-loop
 Inv-loop nodes₀ words i₀ nodes i = Unit
