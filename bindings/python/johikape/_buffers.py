@@ -115,7 +115,8 @@ def call(function: Any, *arguments: Any) -> int:
                 passed.append(span[0])
             else:
                 passed.append(argument)
-        return function(*passed)
+        number: int = function(*passed)
+        return number
     finally:
         for buffer in held:
             _release(byref(buffer))

@@ -59,8 +59,8 @@ class Value:
             object.__setattr__(self, name, value)
 
     def _fields(self) -> List[Tuple[str, Any]]:
-        names = [field.name for field in fields(self)]  # type: ignore[arg-type]
-        return [(name, getattr(self, name)) for name in names]
+        itself: Any = self
+        return [(field.name, getattr(self, field.name)) for field in fields(itself)]
 
     def __repr__(self) -> str:
         """As one would write it; what is missing is left out."""

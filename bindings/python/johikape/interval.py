@@ -49,27 +49,27 @@ class _Ends(Value):
 
     def intersects_value(self, value: float) -> bool:
         """Whether the value lies in it."""
-        return self._calls.accepts(self._c(), double(value, "value"))
+        return bool(self._calls.accepts(self._c(), double(value, "value")))
 
     def intersects(self: E, other: E) -> bool:
         """Whether they have a value in common. Ends that touch do."""
-        return self._calls.intersects(self._c(), self._like(other))
+        return bool(self._calls.intersects(self._c(), self._like(other)))
 
     def contains(self: E, other: E) -> bool:
         """Whether the other lies in it."""
-        return self._calls.contains(self._c(), self._like(other))
+        return bool(self._calls.contains(self._c(), self._like(other)))
 
     def is_empty(self) -> bool:
         """Whether hi - lo is -inf."""
-        return self._calls.is_empty(self._c())
+        return bool(self._calls.is_empty(self._c()))
 
     def width(self) -> float:
         """hi - lo; of an x that wraps around, inf."""
-        return self._calls.width(self._c())
+        return float(self._calls.width(self._c()))
 
     def mid(self) -> float:
         """The middle; of an x that wraps around, inf."""
-        return self._calls.mid(self._c())
+        return float(self._calls.mid(self._c()))
 
     def merge(self: E, other: E) -> E:
         """One around both. An empty x yields the other; a NaN end of a plain one is passed over."""
@@ -172,4 +172,4 @@ class WraparoundInterval(_Ends):
         >>> WraparoundInterval(170, -170).is_wraparound()
         True
         """
-        return library.johikape_x_wraps(self._c())
+        return bool(library.johikape_x_wraps(self._c()))

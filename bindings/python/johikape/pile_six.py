@@ -6,10 +6,14 @@ of its readings; a reader that trusts the records opens only the files that may 
 
 from __future__ import annotations
 
+from typing import Tuple
+
 from . import BoundingBox, Column, Filter, GeoStatistics, fold
 
+Pair = Tuple[float, float]
 
-def part(x, y, z, m, readings):  # type: ignore[no-untyped-def]
+
+def part(x: Pair, y: Pair, z: Pair, m: Pair, readings: int) -> GeoStatistics:
     return GeoStatistics(bbox=BoundingBox(x, y, z, m), total_points=readings)
 
 
@@ -38,6 +42,7 @@ def main() -> None:
     print("Wanted: readings above 55 degrees in pile six, x 10 to 20 and y 38 to 46.")
     for name, parts in FILES.items():
         record = fold(parts)
+        assert record.bbox and record.bbox.m, "each part has both"
         degrees = record.bbox.m
         answer = wanted.evaluate_by_position([record])
         print(
@@ -46,6 +51,7 @@ def main() -> None:
             + ("may match, read it" if answer else "cannot match, skip it")
         )
     box = wanted.filter_bbox(READINGS.name)
+    assert box.m, "the filter has it"
     print(
         f"The index is asked for x {box.x.lo:g} to {box.x.hi:g}, y {box.y.lo:g} to {box.y.hi:g}, "
         f"from {box.m.lo:g} degrees on."

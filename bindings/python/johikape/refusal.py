@@ -35,7 +35,8 @@ class Refusal(Exception):
     @property
     def number(self) -> int:
         """The number that johikape.h gives the reason."""
-        return self.args[0]
+        number: int = self.args[0]
+        return number
 
     @property
     def sentence(self) -> str:

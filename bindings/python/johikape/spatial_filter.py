@@ -266,11 +266,13 @@ class Filter:
             else:
                 nodes.extend((node, 0, 0, 0))
             sides.append(number)
-        tables = (nodes, literals, literal_flags)
+        tables: List[Any] = [nodes, literals, literal_flags]
         return Tables(*(memoryview(table).toreadonly() for table in tables))
 
     def __eq__(self, other: object) -> bool:
-        return self._nodes == other._nodes if isinstance(other, Filter) else NotImplemented
+        if not isinstance(other, Filter):
+            return NotImplemented
+        return self._nodes == other._nodes
 
     def __hash__(self) -> int:
         return hash(self._nodes)

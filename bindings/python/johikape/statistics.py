@@ -4,7 +4,7 @@ from __future__ import annotations
 
 from ctypes import byref, c_double, c_int64, c_uint32
 from dataclasses import dataclass
-from typing import Any, Callable, Optional, Tuple
+from typing import Any, Callable, Dict, Optional, Tuple
 
 from ._library import library
 from ._values import Value, double, signed, unsigned
@@ -121,7 +121,7 @@ class Parts:
             raise TypeError(f"expected GeoStatistics, not {type(record).__name__}")
         parts = cls()
         flags = flags_of(record.bbox)
-        parts.doubles[:ENDS] = ends_of(record.bbox)
+        parts.doubles[:ENDS] = list(ends_of(record.bbox))
         for place, (name, flag) in enumerate(EXTENTS.items(), ENDS):
             extent = getattr(record, name)
             if extent is not None:
@@ -145,15 +145,13 @@ class Parts:
     def record(self) -> GeoStatistics:
         """The record that stands there."""
         flags = self.flags.value
+        known: Dict[str, Any] = {}
+        for place, (name, flag) in enumerate(TOTALS.items()):
+            known[name] = self.totals[place] if flags & flag else None
+        for place, (name, flag) in enumerate(EXTENTS.items(), ENDS):
+            known[name] = self.doubles[place] if flags & flag else None
         return GeoStatistics(
-            bbox=box_of(self.doubles, flags & BOX_FLAGS) if flags & BOX else None,
+            bbox=box_of(self.doubles[:ENDS], flags & BOX_FLAGS) if flags & BOX else None,
             geometry_types=self.types.value if flags & TYPES else None,
-            **{
-                name: self.totals[place] if flags & flag else None
-                for place, (name, flag) in enumerate(TOTALS.items())
-            },
-            **{
-                name: self.doubles[place] if flags & flag else None
-                for place, (name, flag) in enumerate(EXTENTS.items(), ENDS)
-            },
+            **known,
         )

@@ -3,7 +3,9 @@
 ghost use mathlib.Core.Path.{_≡_};
 ghost use mathlib.Core.List.{_∷_, []};
 ghost use Prim.Native.Nat.{_≤_, _<_, _+_, _*_};
+ghost use lib.IntN.{pos};
 ghost use lib.ListN.{length, drop, getD};
+ghost use lib.Ieee.{nan};
 ghost use Rattle.sedona_expr.specs.Error as error;
 ghost use Rattle.sedona_expr.specs.Statistics as statistics;
 ghost use Rattle.sedona_expr.specs.Refusals as refusals;
@@ -41,20 +43,24 @@ fn types_of(known: bool, bits: u32) -> GeometryTypes
     GeometryTypes::Missing
 }
 
-fn total_of(known: bool, n: i64) -> Total
-    ensures { λ r. ⌜ r ≡ records.totalOf known n ⌝ }
+// The total at a place.
+fn total_at(known: bool, totals: &[i64], at: usize) -> Total
+    requires { ⌜ at < length (now totals) ⌝ }
+    ensures { λ r. ⌜ r ≡ records.totalOf known (getD (now (totals .entry)) at (pos 0)) ⌝ }
 {
     if known {
-        return Total::Known(n);
+        return Total::Known(totals[at]);
     }
     Total::Missing
 }
 
-fn extent_of(known: bool, x: f64) -> Extent
-    ensures { λ r. ⌜ r ≡ records.extentOf known x ⌝ }
+// The length at a place.
+fn extent_at(known: bool, doubles: &[f64], at: usize) -> Extent
+    requires { ⌜ at < length (now doubles) ⌝ }
+    ensures { λ r. ⌜ r ≡ records.extentOf known (getD (now (doubles .entry)) at nan) ⌝ }
 {
     if known {
-        return Extent::Known(x);
+        return Extent::Known(doubles[at]);
     }
     Extent::Missing
 }
@@ -67,15 +73,15 @@ fn read(doubles: &[f64], totals: &[i64], types: u32, flags: u32) -> GeoStatistic
     GeoStatistics {
         bbox: box_at(doubles, &[(flags % 8) as u8], 0),
         geometry_types: types_of(flags / 8 % 2 == 1, types),
-        total_geometries: total_of(flags / 16 % 2 == 1, totals[0]),
-        total_size_bytes: total_of(flags / 32 % 2 == 1, totals[1]),
-        total_points: total_of(flags / 64 % 2 == 1, totals[2]),
-        puntal_count: total_of(flags / 128 % 2 == 1, totals[3]),
-        lineal_count: total_of(flags / 256 % 2 == 1, totals[4]),
-        polygonal_count: total_of(flags / 512 % 2 == 1, totals[5]),
-        collection_count: total_of(flags / 1024 % 2 == 1, totals[6]),
-        total_envelope_width: extent_of(flags / 2048 % 2 == 1, doubles[8]),
-        total_envelope_height: extent_of(flags / 4096 % 2 == 1, doubles[9]),
+        total_geometries: total_at(flags / 16 % 2 == 1, totals, 0),
+        total_size_bytes: total_at(flags / 32 % 2 == 1, totals, 1),
+        total_points: total_at(flags / 64 % 2 == 1, totals, 2),
+        puntal_count: total_at(flags / 128 % 2 == 1, totals, 3),
+        lineal_count: total_at(flags / 256 % 2 == 1, totals, 4),
+        polygonal_count: total_at(flags / 512 % 2 == 1, totals, 5),
+        collection_count: total_at(flags / 1024 % 2 == 1, totals, 6),
+        total_envelope_width: extent_at(flags / 2048 % 2 == 1, doubles, 8),
+        total_envelope_height: extent_at(flags / 4096 % 2 == 1, doubles, 9),
     }
 }
 

@@ -6,12 +6,12 @@ use replay_geometry::names::MERGE;
 use replay_geometry::names::MERGE_VALUE;
 use replay_text::words::RECORD;
 
-// What a call is of, beside the numbers of replay_geometry.
+// What a call is of: numbers that the calls of sedona_geometry leave free.
 pub const STATISTICS: u8 = 6;
 
 pub const FILTER: u8 = 7;
 
-// Its name, beside the same.
+// The rest of its name, in the same way.
 pub const UNSPECIFIED: u8 = 34;
 
 pub const FOLD: u8 = 35;

@@ -17,7 +17,7 @@ use sedona_geometry::interval::Interval;
 use sedona_geometry::interval::WraparoundInterval;
 use sedona_geometry::types::GeometryTypeAndDimensionsSet;
 
-// The operands of a call that takes doubles. (Fields, since each place of an array is a proof more.)
+// The operands of a call that takes doubles: fields, since places of an array take far longer to prove.
 pub struct Four {
     pub a: f64,
     pub b: f64,

@@ -17,6 +17,7 @@ use replay_text::digest::Swept;
 use replay_text::words::Doubles;
 use replay_text::words::MOST_WORDS;
 use replay_text::words::Sets;
+use sedona_geometry::bounding_box::BoundingBox;
 
 // The most boxes that the intervals make.
 const MOST_BOXES: usize = MOST_INTERVALS
@@ -75,39 +76,96 @@ fn turn_of_doubles(number: usize, call: Call, values: Doubles) -> Turn {
 
 // The operands are two boxes, a box and a double, or a box.
 fn turn_of_boxes(number: usize, call: Call, ends: Doubles, values: Doubles) -> Turn {
-    if call.operands == TWO_BOXES {
-        let second = box_numbered(number, ends);
-        let first = box_numbered(second.rest, ends);
-        let b = first.bounds;
-        let other = second.bounds;
-        return Turn::new(make_of_boxes(call, b, other, 0.0), first.rest);
-    }
-    if call.operands > BOX {
-        let digit = last_digit(number, values.count);
-        let at = digit.place % MOST_WORDS;
-        let first = box_numbered(digit.rest, ends);
-        let b = first.bounds;
-        return Turn::new(make_of_boxes(call, b, b, values.list[at]), first.rest);
-    }
-    let first = box_numbered(number, ends);
+    let last = last_operand(number, call.operands, ends, values);
+    let other = last.other;
+    let first = box_numbered(last.rest, ends);
     let b = first.bounds;
-    Turn::new(make_of_boxes(call, b, b, 0.0), first.rest)
+    let answer = make_of_boxes(call, b, other, last.distance);
+    Turn::new(answer, first.rest)
 }
 
-// The operands are type sets: two, one or none.
+// What a call takes behind its first box, and what is left of the number.
+struct Last {
+    other: BoundingBox,
+    distance: f64,
+    rest: usize,
+}
+
+// The operand behind the first box, by the last digits of a number; none where a box is all.
+fn last_operand(number: usize, operands: usize, ends: Doubles, values: Doubles) -> Last {
+    if operands == TWO_BOXES {
+        let second = box_numbered(number, ends);
+        let other = second.bounds;
+        return Last {
+            other,
+            distance: 0.0,
+            rest: second.rest,
+        };
+    }
+    let other = BoundingBox::empty();
+    if operands == BOX {
+        return Last {
+            other,
+            distance: 0.0,
+            rest: number,
+        };
+    }
+    let digit = last_digit(number, values.count);
+    Last {
+        other,
+        distance: value_at(digit.place, values),
+        rest: digit.rest,
+    }
+}
+
+// The double at a place. (The remainder by the length of the list changes nothing, here and below.)
+fn value_at(place: usize, values: Doubles) -> f64 {
+    values.list[place % MOST_WORDS]
+}
+
+// The type set at a place.
+fn set_at(place: usize, sets: Sets) -> u32 {
+    sets.list[place % MOST_WORDS]
+}
+
+// The operands are type sets.
 fn turn_of_sets(number: usize, call: Call, sets: Sets) -> Turn {
-    if call.operands == 0 {
-        return Turn::new(make_of_sets(call, 0, 0), number);
+    let pair = pair_at(number, call.operands, sets);
+    let answer = make_of_sets(call, pair.first, pair.second);
+    Turn::new(answer, pair.rest)
+}
+
+// Two type sets, and what is left of the number.
+struct Pair {
+    first: u32,
+    second: u32,
+    rest: usize,
+}
+
+// Two type sets, one or none, by the last digits of a number; 0 stands for the others.
+fn pair_at(number: usize, operands: usize, sets: Sets) -> Pair {
+    if operands == 0 {
+        return Pair {
+            first: 0,
+            second: 0,
+            rest: number,
+        };
     }
     let last = last_digit(number, sets.count);
-    let at = last.place % MOST_WORDS;
-    if call.operands == 1 {
-        return Turn::new(make_of_sets(call, sets.list[at], 0), last.rest);
+    let set = set_at(last.place, sets);
+    if operands == 1 {
+        return Pair {
+            first: set,
+            second: 0,
+            rest: last.rest,
+        };
     }
     let first = last_digit(last.rest, sets.count);
-    let first_at = first.place % MOST_WORDS;
-    let answer = make_of_sets(call, sets.list[first_at], sets.list[at]);
-    Turn::new(answer, first.rest)
+    Pair {
+        first: set_at(first.place, sets),
+        second: set,
+        rest: first.rest,
+    }
 }
 
 // Doubles, and what is left of a number whose last digits are their places.
@@ -138,10 +196,9 @@ impl Tuple {
     fn with_digit(self, values: Doubles) -> Tuple {
         let v = self.operands;
         let digit = last_digit(self.rest, values.count);
-        let at = digit.place % MOST_WORDS;
         Tuple {
             operands: Four {
-                a: values.list[at],
+                a: value_at(digit.place, values),
                 b: v.a,
                 c: v.b,
                 d: v.c,

@@ -1,0 +1,257 @@
+/* Hands garbage of every length to each function: garbage ROUNDS
+ *
+ * Each list and each output lies alone, in memory that is exactly as long as the call is told, so that
+ * a memory checker sees every byte that is read or written beside it (bindings/c/run says how). What
+ * is seen without one: each call ends, gives an answer or a number of its own, and writes nothing where
+ * it is refused. */
+#include "johikape.h"
+
+#include <stdio.h>
+#include <stdlib.h>
+#include <string.h>
+
+enum { MOST_ROOMS = 64, MOST_NODES = 1026, NUMBERS = 12 };
+
+static uint64_t state = 1;
+static void *rooms[MOST_ROOMS];
+static size_t rooms_count;
+static unsigned long counts[NUMBERS];
+
+/* The next 64 bits (splitmix64). */
+static uint64_t bits(void) {
+    uint64_t z = state += 0x9e3779b97f4a7c15;
+    z = (z ^ (z >> 30)) * 0xbf58476d1ce4e5b9;
+    z = (z ^ (z >> 27)) * 0x94d049bb133111eb;
+    return z ^ (z >> 31);
+}
+
+static size_t below(size_t bound) {
+    return (size_t)(bits() % bound);
+}
+
+/* How long a list is: mostly as long as it should be. */
+static size_t length(size_t fitting) {
+    return below(8) ? fitting : below(2 * fitting + 20);
+}
+
+/* Memory of its own, until the round ends. */
+static void *room(size_t size) {
+    void *made = malloc(size);
+    if ((made == NULL && size > 0) || rooms_count == MOST_ROOMS) {
+        fputs("no room\n", stderr);
+        exit(2);
+    }
+    return rooms[rooms_count++] = made;
+}
+
+static void *copy(const void *from, size_t size) {
+    return memcpy(room(size), from, size);
+}
+
+static double number(void) {
+    static const double of_note[] = {0.0, -0.0, 1e308, -1e308, 0x1p-1074, 180.0, -180.0, 170.0};
+    const uint64_t any = bits();
+    double value;
+    switch (below(4)) {
+    case 0:
+        memcpy(&value, &any, sizeof value);
+        return value;
+    case 1:
+        return of_note[below(8)] * (below(8) ? 1.0 : 1e308);
+    default:
+        return (double)below(41) - 20.0;
+    }
+}
+
+static double *doubles(size_t count) {
+    double *list = room(count * sizeof *list);
+    for (size_t i = 0; i < count; i++)
+        list[i] = number();
+    return list;
+}
+
+static int64_t *totals(size_t count) {
+    int64_t *list = room(count * sizeof *list);
+    for (size_t i = 0; i < count; i++)
+        list[i] = below(4) ? (int64_t)below(1000) : (int64_t)bits();
+    return list;
+}
+
+/* Words below a bound, now and then of any bits. */
+static uint32_t *words(size_t count, size_t bound) {
+    uint32_t *list = room(count * sizeof *list);
+    for (size_t i = 0; i < count; i++)
+        list[i] = (uint32_t)(below(200) ? below(bound) : bits());
+    return list;
+}
+
+/* Flags of boxes, now and then of any bits. */
+static uint8_t *flags(size_t count) {
+    uint8_t *list = room(count);
+    for (size_t i = 0; i < count; i++)
+        list[i] = (uint8_t)(below(50) ? 2 * below(4) + 1 : bits());
+    return list;
+}
+
+/* A chain of leaves with a word or two of garbage, and cut anywhere. */
+static uint32_t *filter(size_t count) {
+    static const uint32_t kinds[] = {JOHIKAPE_INTERSECTS, JOHIKAPE_COVERS, JOHIKAPE_LITERAL_FALSE,
+                                     JOHIKAPE_UNKNOWN};
+    uint32_t *list = words(count, 4);
+    for (size_t i = 0; i + 4 <= count; i += 4) {
+        const uint32_t node = (uint32_t)(i / 4);
+        list[i] = kinds[below(4)];
+        if (node > 0 && node % 2 == 0) {
+            list[i] = below(2) ? JOHIKAPE_AND : JOHIKAPE_OR;
+            list[i + 1] = node - 2;
+            list[i + 2] = node - 1;
+        }
+    }
+    for (size_t faults = below(3); count > 0 && faults > 0; faults--)
+        list[below(count)] = (uint32_t)(below(2) ? below(9) : bits());
+    return list;
+}
+
+static void fail(const char *name, const char *what) {
+    fprintf(stderr, "%s: %s\n", name, what);
+    exit(1);
+}
+
+/* A number is one that the call can give. */
+static void gives(const char *name, uint32_t given, uint32_t most) {
+    if (given > most || given >= NUMBERS)
+        fail(name, "a number that it cannot give");
+    counts[given]++;
+}
+
+/* A call that is refused leaves what it was lent as it was. */
+static void leaves(const char *name, uint32_t given, const void *before, const void *after, size_t size) {
+    if (given != JOHIKAPE_OK && memcmp(before, after, size) != 0)
+        fail(name, "refused, and yet it wrote");
+}
+
+static void tests(const char *name, bool given) {
+    uint8_t byte;
+    memcpy(&byte, &given, 1);
+    gives(name, byte, JOHIKAPE_YES);
+}
+
+static void intervals(void) {
+    const johikape_interval a = {number(), number()}, b = {number(), number()};
+    const double value = number();
+    double *lo = doubles(1), *hi = doubles(1);
+    const double before[2] = {*lo, *hi};
+    tests("interval_accepts", johikape_interval_accepts(a, value));
+    tests("interval_intersects", johikape_interval_intersects(a, b));
+    tests("interval_contains", johikape_interval_contains(a, b));
+    tests("interval_is_empty", johikape_interval_is_empty(a));
+    tests("x_wraps", johikape_x_wraps(a));
+    tests("x_accepts", johikape_x_accepts(a, value));
+    tests("x_intersects", johikape_x_intersects(a, b));
+    tests("x_contains", johikape_x_contains(a, b));
+    tests("x_is_empty", johikape_x_is_empty(a));
+    volatile double sink = johikape_interval_width(a) + johikape_interval_mid(a) + johikape_x_width(a) +
+                           johikape_x_mid(a) + johikape_interval_merge(a, b).lo +
+                           johikape_interval_merge_value(a, value).hi +
+                           johikape_interval_intersection(a, b).lo +
+                           johikape_interval_expand_by(a, value).hi + johikape_x_merge(a, b).lo +
+                           johikape_x_merge_value(a, value).hi + johikape_x_expand_by(a, value).lo;
+    (void)sink;
+    const uint32_t given = johikape_x_intersection(a, b, lo, hi);
+    gives("x_intersection", given, JOHIKAPE_TWO_PARTS);
+    leaves("x_intersection", given, &before[0], lo, sizeof *lo);
+    leaves("x_intersection", given, &before[1], hi, sizeof *hi);
+}
+
+static void boxes(void) {
+    const double *b = doubles(8), distance = number();
+    const uint8_t b_flags = *flags(1);
+    gives("box_intersects", johikape_box_intersects(doubles(8), *flags(1), b, b_flags), JOHIKAPE_BOXES);
+    gives("box_contains", johikape_box_contains(doubles(8), *flags(1), b, b_flags), JOHIKAPE_BOXES);
+    for (int call = 0; call < 3; call++) {
+        double *a = doubles(8);
+        uint8_t *a_flags = flags(1);
+        const void *a_before = copy(a, 8 * sizeof *a), *flags_before = copy(a_flags, 1);
+        const uint32_t given = call == 0   ? johikape_box_merge(a, a_flags, b, b_flags)
+                               : call == 1 ? johikape_box_intersection(a, a_flags, b, b_flags)
+                                           : johikape_box_expand_by(a, a_flags, distance);
+        gives("a box's change", given, JOHIKAPE_BOXES);
+        leaves("a box's change", given, a_before, a, 8 * sizeof *a);
+        leaves("a box's change", given, flags_before, a_flags, 1);
+    }
+}
+
+static void records(void) {
+    double *out = doubles(10);
+    int64_t *out_totals = totals(7);
+    uint32_t *out_types = words(1, 128), *out_flags = words(1, 8192);
+    if (below(2))
+        *out_flags = below(2) ? *out_flags | 1 : *out_flags & ~7u;
+    const void *before = copy(out, 10 * sizeof *out), *before_totals = copy(out_totals, 7 * sizeof *out_totals);
+    const uint32_t before_types = *out_types, before_flags = *out_flags;
+    const size_t count = below(12);
+    const size_t lengths[4] = {length(10 * count), length(7 * count), length(count), length(count)};
+    uint32_t *record_flags = words(lengths[3], 1024);
+    for (size_t i = 0; i < lengths[3] && below(50); i++)
+        record_flags[i] = 8 * (record_flags[i] % 1024) + (uint32_t)(2 * below(4) + 1);
+    const bool is_merge = below(2);
+    const uint32_t given =
+        is_merge ? johikape_merge(out, out_totals, out_types, out_flags, doubles(10), totals(7),
+                                  (uint32_t)bits(), (uint32_t)below(8192))
+                 : johikape_fold(doubles(lengths[0]), lengths[0], totals(lengths[1]), lengths[1],
+                                 words(lengths[2], 128), lengths[2], record_flags, lengths[3], out,
+                                 out_totals, out_types, out_flags);
+    const char *name = is_merge ? "merge" : "fold";
+    gives(name, given, JOHIKAPE_BOXES);
+    leaves(name, given, before, out, 10 * sizeof *out);
+    leaves(name, given, before_totals, out_totals, 7 * sizeof *out_totals);
+    leaves(name, given, &before_types, out_types, sizeof before_types);
+    leaves(name, given, &before_flags, out_flags, sizeof before_flags);
+}
+
+static void filters(void) {
+    const size_t most = below(100) ? 12 : MOST_NODES;
+    const size_t columns = 4 + below(4), literals = 4 + below(4);
+    const size_t n = length(4 * (2 * below(most / 2) + 1)), l = length(8 * literals), lf = length(literals);
+    const size_t r = length(8 * columns), rf = length(columns), names_count = length(columns);
+    const uint32_t *nodes = filter(n);
+    const double *literal_ends = doubles(l), *record_ends = doubles(r);
+    const uint8_t *literal_flags = flags(lf), *record_flags = flags(rf);
+    uint32_t *names = words(names_count, 8);
+    for (size_t i = 0; i < names_count && below(4); i++)
+        names[i] = (uint32_t)i;
+    double *ends = doubles(8);
+    uint8_t *out_flags = flags(1);
+    const void *before = copy(ends, 8 * sizeof *ends), *before_flags = copy(out_flags, 1);
+    gives("evaluate_by_position",
+          johikape_evaluate_by_position(nodes, n, literal_ends, l, literal_flags, lf, record_ends, r,
+                                        record_flags, rf),
+          JOHIKAPE_NO_COLUMN);
+    gives("evaluate_by_name",
+          johikape_evaluate_by_name(nodes, n, literal_ends, l, literal_flags, lf, record_ends, r,
+                                    record_flags, rf, names, names_count),
+          JOHIKAPE_NAME_TWICE);
+    const uint32_t given = johikape_filter_bbox(nodes, n, literal_ends, l, literal_flags, lf,
+                                                (uint32_t)below(8), ends, out_flags);
+    gives("filter_bbox", given, JOHIKAPE_NO_LITERAL);
+    leaves("filter_bbox", given, before, ends, 8 * sizeof *ends);
+    leaves("filter_bbox", given, before_flags, out_flags, 1);
+}
+
+int main(int count, char **arguments) {
+    const unsigned long rounds = count == 2 ? strtoul(arguments[1], NULL, 10) : 1000;
+    for (unsigned long i = 0; i < rounds; i++) {
+        intervals();
+        boxes();
+        records();
+        filters();
+        while (rooms_count > 0)
+            free(rooms[--rooms_count]);
+    }
+    printf("%lu rounds of garbage to 31 functions; answers and numbers:", rounds);
+    for (int i = 0; i < NUMBERS; i++)
+        if (counts[i] > 0)
+            printf(" %d: %lu", i, counts[i]);
+    puts("");
+    return 0;
+}
