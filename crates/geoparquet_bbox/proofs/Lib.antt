@@ -1,0 +1,4 @@
+pub mod Finite
+pub mod Instances
+pub mod Passing
+pub mod ThereAndBack
