@@ -2,6 +2,7 @@
 
 use crate::bounding_box::BoundingBox;
 use crate::interval::{Interval, IntervalTrait, WraparoundInterval};
+use crate::layouts::MOST_NUMBERS;
 use crate::operands::{Kind, MISSING};
 use crate::records::{EXTENTS, LEAVES_RANGE, TOTALS};
 use crate::statistics::GeoStatistics;
@@ -92,6 +93,17 @@ impl Answer {
         let number = result.as_ref().map_or_else(|number| *number, |_| 0);
         let bounds = result.unwrap_or_else(|_| BoundingBox::empty());
         Answer::joined([Answer(vec![Part::Integer(number)]), bounds.into()])
+    }
+
+    /// The number 0, how many numbers an array has, and these with 0 behind them; or the number that
+    /// refuses it, and an empty array.
+    pub fn laid_out(result: Result<Vec<f64>, u64>) -> Answer {
+        let number = result.as_ref().map_or_else(|number| *number, |_| 0);
+        let mut array = result.unwrap_or_default();
+        let counts = [number, array.len() as u64].map(Part::Integer);
+        array.resize(MOST_NUMBERS, 0.0);
+        let numbers = array.into_iter().map(Part::Double);
+        Answer(counts.into_iter().chain(numbers).collect())
     }
 
     fn joined(answers: impl IntoIterator<Item = Answer>) -> Answer {

@@ -3,10 +3,12 @@
 //! `sets S S ..`. A filter call is over the tables of the last lines `nodes W W ..` and so on.
 //! Comments and empty lines are copied.
 
+use crate::answer::Answer;
 use crate::calls::Call;
-use crate::filters::{Lookup, Tables};
+use crate::filters::{Lookup, Tables, bounds, read_flag, read_list};
+use crate::layouts::{from_geoparquet, to_geoparquet};
 use crate::operands::Lists;
-use crate::text::read_set;
+use crate::text::{read, read_set};
 
 /// The case file with the answers behind its lines.
 pub fn answers(calls: &[Call], cases: &str) -> String {
@@ -55,6 +57,7 @@ impl Reader<'_> {
             }
             [name, ref operands @ ..] => self
                 .filter(name, operands)
+                .or_else(|| layout(name, operands))
                 .or_else(|| self.single(name, operands)),
             [] => None,
         };
@@ -90,6 +93,19 @@ impl Reader<'_> {
     fn call(&self, name: &str) -> Option<&Call> {
         self.calls.iter().find(|call| call.name == name)
     }
+}
+
+/// A call of the two layouts: of eight ends and a flag, or of an array.
+fn layout(name: &str, operands: &[&str]) -> Option<String> {
+    let answer = match (name.strip_prefix("geoparquet_bbox::")?, operands) {
+        ("to_geoparquet", [ends @ .., flag]) if ends.len() == 8 => {
+            let flag = read_flag(flag).filter(|flag| [1, 3, 5, 7].contains(flag))?;
+            Answer::laid_out(to_geoparquet(&bounds(&read_list(ends, read)?, flag)))
+        }
+        ("from_geoparquet", array) => Answer::boxed(from_geoparquet(&read_list(array, read)?)),
+        _ => return None,
+    };
+    Some(answer.text())
 }
 
 /// A line with a list that was taken, or was none.

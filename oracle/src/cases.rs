@@ -48,8 +48,8 @@ const HEADER: &str = "\
 # filters, which are in no list; then single cases.
 ";
 
-/// The case file: a sweep of every call whose operands are listed, and the cases of singles.txt and
-/// filters.txt.
+/// The case file: a sweep of every call whose operands are listed, and the cases of singles.txt,
+/// filters.txt and layouts.txt.
 pub fn cases(calls: &[Call]) -> String {
     let sweeps: String = calls
         .iter()
@@ -70,7 +70,11 @@ pub fn list_lines() -> String {
 }
 
 fn singles() -> String {
-    let files = [include_str!("singles.txt"), include_str!("filters.txt")];
+    let files = [
+        include_str!("singles.txt"),
+        include_str!("filters.txt"),
+        include_str!("layouts.txt"),
+    ];
     let lines = files.into_iter().flat_map(str::lines);
     lines.map(|line| spelled(line) + "\n").collect()
 }

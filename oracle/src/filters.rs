@@ -159,7 +159,7 @@ pub fn bounds(ends: &[f64], flags: u8) -> BoundingBox {
     BoundingBox::xyzm(x, interval(1), known(2, 2), known(3, 4))
 }
 
-fn read_flag(word: &str) -> Option<u8> {
+pub fn read_flag(word: &str) -> Option<u8> {
     text::read_set(word)?.try_into().ok()
 }
 
@@ -167,7 +167,7 @@ fn written<T: ToString>(list: &[T]) -> Vec<String> {
     list.iter().map(T::to_string).collect()
 }
 
-fn read_list<T>(words: &[&str], read: fn(&str) -> Option<T>) -> Option<Vec<T>> {
+pub fn read_list<T>(words: &[&str], read: fn(&str) -> Option<T>) -> Option<Vec<T>> {
     let list: Vec<T> = words.iter().map(|word| read(word)).collect::<Option<_>>()?;
     (list.len() <= MOST_WORDS).then_some(list)
 }

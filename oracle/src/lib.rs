@@ -7,6 +7,7 @@ pub mod calls;
 pub mod cases;
 pub mod filter_draws;
 pub mod filters;
+pub mod layouts;
 pub mod operands;
 pub mod random;
 pub mod records;

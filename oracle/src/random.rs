@@ -6,18 +6,25 @@ use crate::operands::{Kind, MISSING};
 use crate::records::TOTALS;
 use crate::text::{write_line, write_operands};
 
-/// Filter calls, which are not in the table of calls.
+/// Filter calls and those of the two layouts, which are not in the table of calls.
 const FILTER_CALLS: usize = 3;
+const LAYOUT_CALLS: usize = 2;
+
+/// What a box may know besides x and y, as flags: nothing, z, m, or both.
+const FLAGS: [u8; 4] = [1, 3, 5, 7];
 
 /// `count` cases, the same ones for the same seed. Doubles of note are drawn from `values`.
 pub fn cases(calls: &[Call], values: &[f64], seed: u64, count: usize) -> String {
     let mut random = Random::new(seed, values);
-    let cases = (0..count).map(
-        |_| match calls.get(random.below(calls.len() + FILTER_CALLS)) {
+    let others = FILTER_CALLS + LAYOUT_CALLS;
+    let cases = (0..count).map(|_| {
+        let place = random.below(calls.len() + others);
+        match calls.get(place) {
             Some(call) => write_line(&call.name, &random.words(&call.operands)),
-            None => random.filter_case(),
-        },
-    );
+            None if place < calls.len() + FILTER_CALLS => random.filter_case(),
+            None => random.layout_case(),
+        }
+    });
     cases.collect()
 }
 
@@ -82,6 +89,34 @@ impl Random<'_> {
         let calls = "SpatialFilter::evaluate_by_position\nSpatialFilter::evaluate_by_name\n";
         let name = self.name().to_string();
         tables.lines() + calls + &write_line("SpatialFilter::filter_bbox", &[name])
+    }
+
+    /// The calls of the two layouts, each of its own.
+    fn layout_case(&mut self) -> String {
+        let (ends, flag) = self.flagged_box();
+        let mut words = write_operands(&ends);
+        words.push(flag.to_string());
+        let array = write_operands(&self.array());
+        write_line("geoparquet_bbox::to_geoparquet", &words)
+            + &write_line("geoparquet_bbox::from_geoparquet", &array)
+    }
+
+    /// The ends of a box, and its flag.
+    pub fn flagged_box(&mut self) -> (Vec<f64>, u8) {
+        (self.doubles(8, 8), FLAGS[self.below(FLAGS.len())])
+    }
+
+    /// A `bbox` array: lows and then highs, of two or three dimensions; of six one has any number of
+    /// numbers up to nine.
+    pub fn array(&mut self) -> Vec<f64> {
+        let count = match self.below(6) {
+            0 => self.below(10),
+            n => 4 + n % 2 * 2,
+        };
+        let doubles = self.doubles(count, 8);
+        let lows = doubles.iter().step_by(2);
+        let highs = doubles.iter().skip(1).step_by(2);
+        lows.chain(highs).copied().collect()
     }
 
     /// Doubles, two and two shaped as intervals. Of a second operand, which comes behind a `first`

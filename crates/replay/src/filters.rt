@@ -47,7 +47,7 @@ fn put_evaluation(out: &mut Buffer, filled: usize, evaluation: Evaluation) -> us
 }
 
 // Puts a number and a box.
-fn put_numbered(out: &mut Buffer, filled: usize, filter_box: NumberedBox) -> usize {
+pub fn put_numbered(out: &mut Buffer, filled: usize, filter_box: NumberedBox) -> usize {
     let bounds = filter_box.bounds;
     let at = put_decimal(out, filled, filter_box.number as u64);
     let at = put(out, at, b' ');
@@ -102,7 +102,7 @@ fn first_words<'a>(count: usize, words: &'a Nodes) -> &'a [u32] {
 }
 
 // The same of doubles.
-fn first_doubles<'a>(count: usize, list: &'a [f64; MOST_WORDS]) -> &'a [f64] {
+pub fn first_doubles<'a>(count: usize, list: &'a [f64; MOST_WORDS]) -> &'a [f64] {
     let all = &list[..];
     if count < all.len() {
         return &all[0..count];

@@ -5,9 +5,12 @@ use crate::filters::put_call_of_tables;
 use crate::kept::Kept;
 use crate::kept::NO_SETTING;
 use crate::kept::setting_named;
+use crate::layouts::put_call_of_layouts;
 use crate::names::FILTER;
+use crate::names::LAYOUT;
 use crate::names::STATISTICS;
 use crate::names::call_named;
+use crate::names::takes;
 use crate::records::put_call_of_records;
 use crate::tables::Nodes;
 use bytes::scan::find;
@@ -105,7 +108,7 @@ fn put_reply(
         return put_sweep(out, filled, rest, kept);
     }
     let call = call_named(first);
-    if words.count != call.operands {
+    if !takes(call, words.count) {
         return put_unknown(out, filled);
     }
     put_call(out, filled, call, words, kept, nodes)
@@ -141,6 +144,7 @@ fn put_call(
     match owner {
         STATISTICS => put_call_of_records(out, filled, call, words),
         FILTER => put_call_of_tables(out, filled, call, words, nodes, kept.tables()),
+        LAYOUT => put_call_of_layouts(out, filled, call, words),
         _ => put_answer(out, filled, answer_to(call, words)),
     }
 }

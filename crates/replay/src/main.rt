@@ -2,6 +2,7 @@
 // byte is copied as it is read; before the end of a line comes the reply to it.
 mod filters;
 mod kept;
+mod layouts;
 mod lent;
 mod line;
 mod names;

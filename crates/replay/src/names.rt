@@ -1,4 +1,5 @@
-// The names of the calls of sedona_expr, beside those of sedona_geometry.
+// The names of the calls of sedona_expr and geoparquet_bbox, beside those of sedona_geometry.
+use replay_geometry::boxes::BOX;
 use replay_geometry::names as geometry;
 use replay_geometry::names::Call;
 use replay_geometry::names::EMPTY;
@@ -11,6 +12,8 @@ pub const STATISTICS: u8 = 6;
 
 pub const FILTER: u8 = 7;
 
+pub const LAYOUT: u8 = 8;
+
 // The rest of its name, in the same way.
 pub const UNSPECIFIED: u8 = 34;
 
@@ -22,6 +25,18 @@ pub const EVALUATE_BY_NAME: u8 = 37;
 
 pub const FILTER_BBOX: u8 = 38;
 
+pub const TO_GEOPARQUET: u8 = 39;
+
+pub const FROM_GEOPARQUET: u8 = 40;
+
+// The operands of a call that takes any number of words.
+const ANY: usize = usize::MAX;
+
+// Whether a call takes so many words.
+pub fn takes(call: Call, count: usize) -> bool {
+    call.operands == ANY || call.operands == count
+}
+
 // The call that a word names.
 pub fn call_named(word: &[u8]) -> Call {
     let call = call_of_statistics(word);
@@ -29,6 +44,10 @@ pub fn call_named(word: &[u8]) -> Call {
         return call;
     }
     let call = call_of_filter(word);
+    if call.is_known() {
+        return call;
+    }
+    let call = call_of_layout(word);
     if call.is_known() {
         return call;
     }
@@ -63,4 +82,21 @@ fn call_of_filter(word: &[u8]) -> Call {
             0,
         )
         .row(word, b"SpatialFilter::filter_bbox", FILTER_BBOX, 1)
+}
+
+// The calls of the two layouts. A box is eight ends and a flag, an array any number of numbers.
+fn call_of_layout(word: &[u8]) -> Call {
+    Call::unknown(LAYOUT)
+        .row(
+            word,
+            b"geoparquet_bbox::to_geoparquet",
+            TO_GEOPARQUET,
+            BOX + 1,
+        )
+        .row(
+            word,
+            b"geoparquet_bbox::from_geoparquet",
+            FROM_GEOPARQUET,
+            ANY,
+        )
 }

@@ -1,0 +1,63 @@
+// The calls of the two layouts of a box: of eight ends and a flag, and of an array.
+use crate::filters::first_doubles;
+use crate::filters::put_numbered;
+use crate::names::FROM_GEOPARQUET;
+use geoparquet_bbox::layout::NumberedArray;
+use geoparquet_bbox::layout::from_geoparquet;
+use geoparquet_bbox::layout::to_geoparquet;
+use replay_geometry::boxes::BOX;
+use replay_geometry::names::Call;
+use replay_text::output::Buffer;
+use replay_text::output::put;
+use replay_text::output::put_decimal;
+use replay_text::words::Words;
+use replay_text::write::put_double;
+use sedona_expr::refusals::is_good_flag;
+use sedona_expr::statistics::Bbox;
+use sedona_expr::tables::box_at;
+
+// Puts what a call answers to the words of a line.
+pub fn put_call_of_layouts(out: &mut Buffer, filled: usize, call: Call, words: Words) -> usize {
+    if !words.are_doubles {
+        return put(out, filled, b'?');
+    }
+    if call.name == FROM_GEOPARQUET {
+        let array = words.doubles;
+        let given = from_geoparquet(first_doubles(words.count, &array));
+        return put_numbered(out, filled, given);
+    }
+    let Bbox::Known(bounds) = flagged_box(words) else {
+        return put(out, filled, b'?');
+    };
+    put_array(out, filled, to_geoparquet(bounds))
+}
+
+// The box of eight ends and a flag; none where the last word is no flag of a box.
+fn flagged_box(words: Words) -> Bbox {
+    let ends = words.doubles;
+    let flag = words.flags[BOX];
+    if words.sets[BOX] == flag as u32 && is_good_flag(false, flag) {
+        return box_at(&ends, &[flag], 0);
+    }
+    Bbox::Missing
+}
+
+// Puts a number, how many numbers an array has, and its six places.
+fn put_array(out: &mut Buffer, filled: usize, array: NumberedArray) -> usize {
+    let numbers = array.numbers;
+    let at = put_decimal(out, filled, array.number as u64);
+    let at = put(out, at, b' ');
+    let at = put_decimal(out, at, array.count as u64);
+    let at = put_next(out, at, numbers[0]);
+    let at = put_next(out, at, numbers[1]);
+    let at = put_next(out, at, numbers[2]);
+    let at = put_next(out, at, numbers[3]);
+    let at = put_next(out, at, numbers[4]);
+    put_next(out, at, numbers[5])
+}
+
+// Puts a space and a number.
+fn put_next(out: &mut Buffer, filled: usize, x: f64) -> usize {
+    let at = put(out, filled, b' ');
+    put_double(out, at, x)
+}
