@@ -10,7 +10,7 @@
 #include <stdlib.h>
 #include <string.h>
 
-enum { MOST_ROOMS = 64, MOST_NODES = 1026, NUMBERS = 12 };
+enum { MOST_ROOMS = 64, MOST_NODES = 1026, NUMBERS = 15 };
 
 static uint64_t state = 1;
 static void *rooms[MOST_ROOMS];
@@ -181,6 +181,28 @@ static void boxes(void) {
     }
 }
 
+static void layouts(void) {
+    const size_t count = below(3) ? 4 + 2 * below(2) : below(10);
+    const double *from = doubles(count);
+    double *ends = doubles(8), *array = doubles(6);
+    uint8_t *out_flags = flags(1);
+    size_t *out_count = room(sizeof *out_count);
+    *out_count = (size_t)bits();
+    const void *ends_before = copy(ends, 8 * sizeof *ends), *flags_before = copy(out_flags, 1);
+    const void *array_before = copy(array, 6 * sizeof *array);
+    const size_t count_before = *out_count;
+    uint32_t given = johikape_box_to_geoparquet(doubles(8), *flags(1), array, out_count);
+    gives("box_to_geoparquet", given, JOHIKAPE_BAD_NUMBERS);
+    leaves("box_to_geoparquet", given, array_before, array, 6 * sizeof *array);
+    leaves("box_to_geoparquet", given, &count_before, out_count, sizeof count_before);
+    if (given == JOHIKAPE_OK && *out_count != 4 && *out_count != 6)
+        fail("box_to_geoparquet", "a length that no array has");
+    given = johikape_box_from_geoparquet(from, count, ends, out_flags);
+    gives("box_from_geoparquet", given, JOHIKAPE_BAD_NUMBERS);
+    leaves("box_from_geoparquet", given, ends_before, ends, 8 * sizeof *ends);
+    leaves("box_from_geoparquet", given, flags_before, out_flags, 1);
+}
+
 static void records(void) {
     double *out = doubles(10);
     int64_t *out_totals = totals(7);
@@ -243,12 +265,13 @@ int main(int count, char **arguments) {
     for (unsigned long i = 0; i < rounds; i++) {
         intervals();
         boxes();
+        layouts();
         records();
         filters();
         while (rooms_count > 0)
             free(rooms[--rooms_count]);
     }
-    printf("%lu rounds of garbage to 31 functions; answers and numbers:", rounds);
+    printf("%lu rounds of garbage to 33 functions; answers and numbers:", rounds);
     for (int i = 0; i < NUMBERS; i++)
         if (counts[i] > 0)
             printf(" %d: %lu", i, counts[i]);

@@ -45,7 +45,10 @@ enum johikape_number {
     JOHIKAPE_BOXES = 8,        /* bad flags, or lists whose lengths do not fit */
     JOHIKAPE_NO_LITERAL = 9,   /* a literal number that is not lent */
     JOHIKAPE_NO_COLUMN = 10,   /* by position: a column index that is not lent */
-    JOHIKAPE_NAME_TWICE = 11   /* by name: a name number twice among the records */
+    JOHIKAPE_NAME_TWICE = 11,  /* by name: a name number twice among the records */
+    JOHIKAPE_BBOX_LENGTH = 12, /* an array of neither four nor six numbers */
+    JOHIKAPE_KNOWN_M = 13,     /* a known m, for which an array has no place */
+    JOHIKAPE_BAD_NUMBERS = 14  /* a NaN or an infinity, or a low above its high in y or z */
 };
 
 /* What a test answers, where it is not refused. */
@@ -150,6 +153,19 @@ uint32_t johikape_box_merge(double a[8], uint8_t *a_flags, const double b[8], ui
 uint32_t johikape_box_intersection(double a[8], uint8_t *a_flags, const double b[8],
                                    uint8_t b_flags);
 uint32_t johikape_box_expand_by(double a[8], uint8_t *a_flags, double distance);
+
+/* ---- a box as GeoParquet's `bbox` array: (xmin, ymin, xmax, ymax), or with z known (xmin, ymin, zmin,
+ *      xmax, ymax, zmax); xmin above xmax where it crosses the antimeridian */
+
+/* The array of a box, into array, with 0 behind it, and its length, 4 or 6, into count. 0; or
+ * JOHIKAPE_BOXES, JOHIKAPE_KNOWN_M or JOHIKAPE_BAD_NUMBERS, and nothing is written. */
+uint32_t johikape_box_to_geoparquet(const double ends[8], uint8_t flags, double array[6],
+                                    size_t *count);
+
+/* The box of an array, into ends and flags; turned back, it is the same array. 0; or
+ * JOHIKAPE_BBOX_LENGTH or JOHIKAPE_BAD_NUMBERS, and nothing is written. */
+uint32_t johikape_box_from_geoparquet(const double *array, size_t array_count, double ends[8],
+                                      uint8_t *flags);
 
 /* ---- intervals: plain ones, as y, z and m are, and x, which may wrap around */
 

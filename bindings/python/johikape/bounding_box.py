@@ -2,9 +2,9 @@
 
 from __future__ import annotations
 
-from ctypes import byref, c_double, c_uint8
+from ctypes import byref, c_double, c_size_t, c_uint8
 from dataclasses import dataclass
-from typing import Any, Optional, Sequence, Tuple, Union
+from typing import Any, Iterable, Optional, Sequence, Tuple, Union
 
 from ._library import library
 from ._values import Value, double
@@ -17,6 +17,7 @@ BOX_FLAGS = BOX | Z | M
 ENDS = 8
 
 _Array = c_double * ENDS
+_Six = c_double * 6
 _Pair = Tuple[float, float]
 
 
@@ -90,6 +91,32 @@ class BoundingBox(Value):
         BoundingBox(x=WraparoundInterval(lo=16.0, hi=14.0), y=Interval(lo=-4.0, hi=5.0))
         """
         return self._changed(library.johikape_box_expand_by, double(distance, "distance"))
+
+    def to_geoparquet(self) -> Tuple[float, ...]:
+        """The box as GeoParquet's `bbox` array: (xmin, ymin, xmax, ymax), or where z is known
+        (xmin, ymin, zmin, xmax, ymax, zmax). `Refusal` 13 where m is known; then 14 where a known
+        number is NaN or infinite, or y or z has its low above its high.
+
+        >>> BoundingBox((170, -170), (-10, 10), z=(-1.5, 0)).to_geoparquet()
+        (170.0, -10.0, -1.5, -170.0, 10.0, 0.0)
+        """
+        numbers, count = _Six(), c_size_t()
+        accept(library.johikape_box_to_geoparquet(*self._lend(), numbers, byref(count)))
+        return tuple(numbers[: count.value])
+
+    @classmethod
+    def from_geoparquet(cls, array: Iterable[float]) -> BoundingBox:
+        """The box of such an array: turned back, it is the same array. `Refusal` 12 where it has
+        neither four nor six numbers; then 14, as above.
+
+        >>> BoundingBox.from_geoparquet([10, 38, 20, 46])
+        BoundingBox(x=WraparoundInterval(lo=10.0, hi=20.0), y=Interval(lo=38.0, hi=46.0))
+        """
+        numbers = [double(number, "a number of a bbox array") for number in array]
+        ends, flags = new_ends(), c_uint8()
+        lent = (c_double * len(numbers))(*numbers)
+        accept(library.johikape_box_from_geoparquet(lent, len(numbers), ends, byref(flags)))
+        return box_of(ends, flags.value)
 
     def _changed(self, call: Any, *arguments: Any) -> BoundingBox:
         """The box that a call makes of this one, which is lent to it as a copy."""

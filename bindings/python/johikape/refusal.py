@@ -16,6 +16,9 @@ _SENTENCES = {
     9: "a leaf of the filter names a literal that is not lent",
     10: "a leaf of the filter names a column index for which there is no record",
     11: "a name number stands twice among the records",
+    12: "a bbox array has neither four nor six numbers",
+    13: "m is known, and a bbox array has no place for it",
+    14: "a number is NaN or infinite, or y or z has its low above its high",
 }
 
 

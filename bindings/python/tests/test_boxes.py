@@ -71,6 +71,45 @@ class Boxes(unittest.TestCase):
         self.assertFalse(odd.intersects(BoundingBox((0, 1), (0, 1))))
         self.assertEqual(odd.merge(BoundingBox((0, 1), (0, 1))), BoundingBox((0, 1), (0, 1)))
 
+    def test_to_geoparquet(self):
+        strip = BoundingBox((170, -170), (1, 2))
+        self.assertEqual(strip.to_geoparquet(), (170, 1, -170, 2))
+        deep = BoundingBox((170, -170), (1, 2), z=(3, 4))
+        self.assertEqual(deep.to_geoparquet(), (170, 1, 3, -170, 2, 4))
+        below_1 = math.nextafter(1, 0)
+        for number, box in [
+            (13, BoundingBox((0, 1), (0, 1), m=(31.5, 48))),
+            (13, BoundingBox((math.nan, 1), (0, 1), m=(31.5, 48))),
+            (14, BoundingBox((math.nan, 1), (0, 1))),
+            (14, BoundingBox((0, math.inf), (0, 1))),
+            (14, BoundingBox((0, 1), (1, below_1))),
+            (14, BoundingBox((0, 1), (0, 1), z=(1, below_1))),
+            (14, BoundingBox((math.inf, -math.inf), (math.inf, -math.inf))),
+        ]:
+            with self.assertRaises(Refusal) as caught:
+                box.to_geoparquet()
+            self.assertEqual(caught.exception.number, number, box)
+
+    def test_from_geoparquet(self):
+        for array in [(170, 1, -170, 2), (1, 2, 3, 4, 5, 6)]:
+            self.assertEqual(BoundingBox.from_geoparquet(array).to_geoparquet(), array)
+        box = BoundingBox((10, 20), (38, 46), z=(-1.5, -1.5))
+        self.assertEqual(BoundingBox.from_geoparquet(box.to_geoparquet()), box)
+        for number, array in [
+            *((12, [math.nan] * count) for count in (0, 1, 2, 3, 5, 7, 8)),
+            (14, (0, math.nan, 1, 1)),
+            (14, (-math.inf, 0, 1, 1)),
+            (14, (0, 1, 1, 0)),
+            (14, (0, 0, 1, 1, 1, 0)),
+        ]:
+            with self.assertRaises(Refusal) as caught:
+                BoundingBox.from_geoparquet(array)
+            self.assertEqual(caught.exception.number, number, array)
+        with self.assertRaisesRegex(TypeError, "a number of a bbox array must be a number"):
+            BoundingBox.from_geoparquet((0, "1", 1, 1))
+        with self.assertRaises(TypeError):
+            BoundingBox.from_geoparquet(1)
+
     def test_wrong_types(self):
         with self.assertRaisesRegex(TypeError, "x must be WraparoundInterval or a pair"):
             BoundingBox(Interval(0, 1), (0, 1))

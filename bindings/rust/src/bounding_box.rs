@@ -134,4 +134,45 @@ impl BoundingBox {
     pub fn expand_by(&self, distance: f64) -> BoundingBox {
         calls::box_expand_by(Ends::of(self), distance).bounding_box()
     }
+
+    /// The box as GeoParquet's `bbox` array: `(xmin, ymin, xmax, ymax)`, or where z is known
+    /// `(xmin, ymin, zmin, xmax, ymax, zmax)`. An x that wraps around has its `xmin` above its `xmax`.
+    ///
+    /// # Errors
+    ///
+    /// [`Refusal::KnownM`] where m is known; then [`Refusal::BadNumbers`] where a known number is NaN
+    /// or infinite, or y or z has its low above its high.
+    ///
+    /// ```
+    /// # use johikape::{BoundingBox, Refusal};
+    /// let strip = BoundingBox::xy((170.0, -170.0), (-10.0, 10.0)).with_z((-1.5, 0.0));
+    /// assert_eq!(strip.to_geoparquet()?, [170.0, -10.0, -1.5, -170.0, 10.0, 0.0]);
+    /// assert_eq!(strip.with_m((36.0, 63.5)).to_geoparquet(), Err(Refusal::KnownM));
+    /// # Ok::<(), Refusal>(())
+    /// ```
+    pub fn to_geoparquet(&self) -> Result<Vec<f64>, Refusal> {
+        let (numbers, count) = calls::box_to_geoparquet(&Ends::of(self))?;
+        Ok(numbers[..count].to_vec())
+    }
+
+    /// The box of such an array: turned back, it is the same array.
+    ///
+    /// # Errors
+    ///
+    /// [`Refusal::BboxLength`] where it has neither four nor six numbers; then
+    /// [`Refusal::BadNumbers`] where a number is NaN or infinite, or y or z has its low above its high.
+    ///
+    /// ```
+    /// # use johikape::{BoundingBox, Refusal};
+    /// let pile = BoundingBox::from_geoparquet(&[10.0, 38.0, 20.0, 46.0])?;
+    /// assert_eq!(pile, BoundingBox::xy((10.0, 20.0), (38.0, 46.0)));
+    /// assert_eq!(
+    ///     BoundingBox::from_geoparquet(&[10.0, 46.0, 20.0, 38.0]),
+    ///     Err(Refusal::BadNumbers)
+    /// );
+    /// # Ok::<(), Refusal>(())
+    /// ```
+    pub fn from_geoparquet(array: &[f64]) -> Result<BoundingBox, Refusal> {
+        Ok(calls::box_from_geoparquet(array)?.bounding_box())
+    }
 }

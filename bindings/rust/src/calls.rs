@@ -48,6 +48,19 @@ pub(crate) fn box_expand_by(mut a: Ends, distance: f64) -> Ends {
     a
 }
 
+/// The array of a box: its numbers, and how many of them it has.
+pub(crate) fn box_to_geoparquet(a: &Ends) -> Result<([f64; 6], usize), Refusal> {
+    let (mut numbers, mut count) = ([0.0; 6], 0);
+    let number = raw::johikape_box_to_geoparquet(&a.doubles, a.flags, &mut numbers, &mut count);
+    Refusal::check(number).map(|()| (numbers, count))
+}
+
+pub(crate) fn box_from_geoparquet(array: &[f64]) -> Result<Ends, Refusal> {
+    let mut found = Ends::NONE;
+    let number = raw::box_from_geoparquet(array, &mut found.doubles, &mut found.flags);
+    Refusal::check(number).map(|()| found)
+}
+
 pub(crate) fn merge(mut a: Record, b: &Record) -> Result<Record, Refusal> {
     let number = raw::johikape_merge(
         &mut a.doubles,

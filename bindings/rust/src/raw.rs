@@ -5,7 +5,7 @@
 //! pointer, writes only through what is `&mut` below, and gives a bad value a number. So a call is
 //! sound where each pointer is good for what its type and count say, and where what is written
 //! overlaps no other argument. Arguments that are references are both by their type, and the
-//! functions that take nothing else are declared `safe`. The four that take lists as pointers and
+//! functions that take nothing else are declared `safe`. The five that take lists as pointers and
 //! counts are called here alone, over slices.
 
 #![allow(missing_docs)]
@@ -64,6 +64,19 @@ unsafe extern "C" {
         b_flags: u8,
     ) -> u32;
     pub safe fn johikape_box_expand_by(a: &mut [f64; 8], a_flags: &mut u8, distance: f64) -> u32;
+    pub safe fn johikape_box_to_geoparquet(
+        ends: &[f64; 8],
+        flags: u8,
+        array: &mut [f64; 6],
+        count: &mut usize,
+    ) -> u32;
+
+    fn johikape_box_from_geoparquet(
+        array: *const f64,
+        array_count: usize,
+        ends: &mut [f64; 8],
+        flags: &mut u8,
+    ) -> u32;
 
     pub safe fn johikape_merge(
         doubles: &mut [f64; 10],
@@ -132,8 +145,14 @@ unsafe extern "C" {
     ) -> u32;
 }
 
-// SAFETY, of the four below: each pointer and count are those of one slice, which is lent for the
+// SAFETY, of the five below: each pointer and count are those of one slice, which is lent for the
 // whole call and only read. What is written is borrowed by the call alone.
+
+/// `johikape_box_from_geoparquet`.
+#[inline]
+pub fn box_from_geoparquet(array: &[f64], ends: &mut [f64; 8], flags: &mut u8) -> u32 {
+    unsafe { johikape_box_from_geoparquet(array.as_ptr(), array.len(), ends, flags) }
+}
 
 /// `johikape_fold`.
 #[inline]

@@ -44,6 +44,13 @@ pub enum Refusal {
     NoColumn = 10,
     /// 11: by name, a name number twice among the records.
     NameTwice = 11,
+    /// 12: a `bbox` array of neither four nor six numbers.
+    BboxLength = 12,
+    /// 13: a known m, for which a `bbox` array has no place.
+    KnownM = 13,
+    /// 14: a NaN or an infinity in a number of a `bbox` array or of its box, or a low above its high
+    /// in y or z.
+    BadNumbers = 14,
 }
 
 impl Refusal {
@@ -67,6 +74,11 @@ impl Refusal {
             Refusal::NoLiteral => "a literal number is not lent",
             Refusal::NoColumn => "there is no record at a column index",
             Refusal::NameTwice => "a name number stands twice among the records",
+            Refusal::BboxLength => "a bbox array has neither four nor six numbers",
+            Refusal::KnownM => "m is known, and a bbox array has no place for it",
+            Refusal::BadNumbers => {
+                "a number is NaN or infinite, or y or z has its low above its high"
+            }
         }
     }
 
@@ -89,6 +101,9 @@ impl Refusal {
             9 => Refusal::NoLiteral,
             10 => Refusal::NoColumn,
             11 => Refusal::NameTwice,
+            12 => Refusal::BboxLength,
+            13 => Refusal::KnownM,
+            14 => Refusal::BadNumbers,
             _ => panic!("the linked johikape answered {number}, which its header does not list"),
         })
     }
@@ -109,7 +124,7 @@ mod tests {
     #[test]
     fn each_number_is_that_of_its_refusal() {
         assert_eq!(Refusal::check(0), Ok(()));
-        for number in [1, 3, 4, 5, 6, 7, 8, 9, 10, 11] {
+        for number in [1, 3, 4, 5, 6, 7, 8, 9, 10, 11, 12, 13, 14] {
             let refusal = Refusal::check(number).unwrap_err();
             assert_eq!(refusal.number(), number);
             let words = refusal.to_string();

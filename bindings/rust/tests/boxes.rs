@@ -136,3 +136,69 @@ fn nan_ends_meet_nothing_and_are_passed_over_by_a_merge() {
     assert!(!square().contains(&unsure));
     assert_eq!(square().merge(&unsure), square());
 }
+
+#[test]
+fn an_array_has_the_lows_and_then_the_highs() {
+    let strip = BoundingBox::xy((170.0, -170.0), (1.0, 2.0));
+    assert_eq!(strip.to_geoparquet().unwrap(), [170.0, 1.0, -170.0, 2.0]);
+    assert_eq!(
+        strip.with_z((3.0, 4.0)).to_geoparquet().unwrap(),
+        [170.0, 1.0, 3.0, -170.0, 2.0, 4.0]
+    );
+}
+
+#[test]
+fn a_box_and_an_array_come_back() {
+    let boxes = [square(), square().with_z((-1.5, -1.5))];
+    for there in boxes {
+        let array = there.to_geoparquet().unwrap();
+        assert_eq!(BoundingBox::from_geoparquet(&array), Ok(there));
+    }
+    let arrays: [&[f64]; 2] = [&[170.0, 1.0, -170.0, 2.0], &[1.0, 2.0, 3.0, 4.0, 5.0, 6.0]];
+    for there in arrays {
+        let bounds = BoundingBox::from_geoparquet(there).unwrap();
+        assert_eq!(bounds.to_geoparquet().unwrap(), there);
+    }
+}
+
+#[test]
+fn a_box_that_no_array_holds_is_refused() {
+    let known_m = square().with_m((31.5, 48.0));
+    assert_eq!(known_m.to_geoparquet(), Err(Refusal::KnownM));
+    let both = BoundingBox::xy((NAN, 1.0), (0.0, 1.0)).with_m((31.5, 48.0));
+    assert_eq!(both.to_geoparquet(), Err(Refusal::KnownM));
+    for bad in [
+        BoundingBox::xy((NAN, 1.0), (0.0, 1.0)),
+        BoundingBox::xy((0.0, f64::INFINITY), (0.0, 1.0)),
+        BoundingBox::xy((0.0, 1.0), (1.0, 0.0)),
+        square().with_z((1.0, 1.0_f64.next_down())),
+        BoundingBox::empty(),
+    ] {
+        assert_eq!(bad.to_geoparquet(), Err(Refusal::BadNumbers), "{bad:?}");
+    }
+}
+
+#[test]
+fn an_array_that_is_no_box_is_refused() {
+    for count in [0, 1, 2, 3, 5, 7, 8] {
+        let array = vec![NAN; count];
+        assert_eq!(
+            BoundingBox::from_geoparquet(&array),
+            Err(Refusal::BboxLength),
+            "{count}"
+        );
+    }
+    let arrays: [&[f64]; 4] = [
+        &[0.0, NAN, 1.0, 1.0],
+        &[f64::NEG_INFINITY, 0.0, 1.0, 1.0],
+        &[0.0, 1.0, 1.0, 0.0],
+        &[0.0, 0.0, 1.0, 1.0, 1.0, 0.0],
+    ];
+    for array in arrays {
+        assert_eq!(
+            BoundingBox::from_geoparquet(array),
+            Err(Refusal::BadNumbers),
+            "{array:?}"
+        );
+    }
+}

@@ -1,4 +1,5 @@
 pub mod Boxes
 pub mod Filters
 pub mod Intervals
+pub mod Layouts
 pub mod Records

@@ -17,7 +17,7 @@ const NO: u32 = 0;
 const YES: u32 = 1;
 
 // The box of eight doubles and a flag; none where the flag is bad.
-fn read(ends: &Ends, flag: u8) -> Bbox
+pub(crate) fn read(ends: &Ends, flag: u8) -> Bbox
     ensures { λ r. ⌜ r ≡ boxes.read (now (ends .entry)) flag ⌝ }
 {
     if is_good_flag(false, flag) {

@@ -4,4 +4,5 @@
 pub mod boxes;
 pub mod filters;
 pub mod intervals;
+pub mod layouts;
 pub mod records;

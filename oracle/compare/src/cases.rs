@@ -82,6 +82,25 @@ impl Case for BoxCase {
     }
 }
 
+/// For the calls of the two layouts: a box, and an array that is not its own.
+pub struct LayoutCase {
+    pub bounds: Bounds,
+    pub array: Vec<f64>,
+}
+
+impl Case for LayoutCase {
+    fn draw(random: &mut Random) -> Self {
+        let doubles = random.doubles(8, 8);
+        LayoutCase {
+            bounds: Bounds {
+                ends: array::from_fn(|end| doubles[end]),
+                flags: box_flags(random),
+            },
+            array: random.array(),
+        }
+    }
+}
+
 /// Of 32 boxes one has any flags.
 fn box_flags(random: &mut Random) -> u8 {
     match random.below(32) {

@@ -65,6 +65,30 @@ impl Bounds {
     }
 }
 
+/// A `bbox` array: six places, of which the first so many are the array.
+#[derive(Clone, Copy)]
+pub struct Array {
+    pub numbers: [f64; 6],
+    pub count: usize,
+}
+
+impl Array {
+    pub const PATTERN: Array = Array {
+        numbers: [Bounds::PATTERN.ends[0]; 6],
+        count: PATTERN as usize,
+    };
+
+    /// Behind the array is 0.
+    pub fn of(array: &[f64]) -> Array {
+        let mut numbers = [0.0; 6];
+        numbers[..array.len()].copy_from_slice(array);
+        Array {
+            numbers,
+            count: array.len(),
+        }
+    }
+}
+
 /// A record; also all that any call writes or gives, which uses some of its parts.
 #[derive(Clone, Copy)]
 pub struct Record {
@@ -177,6 +201,16 @@ impl From<Bounds> for Record {
         Record {
             flags: bounds.flags.into(),
             ..Record::from(&bounds.ends[..])
+        }
+    }
+}
+
+/// With the count as flags.
+impl From<Array> for Record {
+    fn from(array: Array) -> Record {
+        Record {
+            flags: array.count as u32,
+            ..Record::from(&array.numbers[..])
         }
     }
 }

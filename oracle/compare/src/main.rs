@@ -6,6 +6,7 @@ mod compared;
 mod filters;
 mod intervals;
 mod layout;
+mod layouts;
 mod library;
 mod records;
 mod show;
@@ -22,7 +23,7 @@ const COUNT: u64 = 10_000_000;
 
 /// The groups of `compare` to draw from, by their places. Those of intervals and of boxes are made
 /// fast, and come twice as often.
-const TURNS: [usize; 7] = [0, 0, 1, 1, 2, 3, 4];
+const TURNS: [usize; 8] = [0, 0, 1, 1, 2, 3, 4, 5];
 
 fn main() -> ExitCode {
     let Some((seed, count)) = read_arguments() else {
@@ -53,12 +54,13 @@ fn read_arguments() -> Option<(u64, u64)> {
 
 /// Makes the calls; gives the table of what they gave, or the first difference.
 fn compare(seed: u64, count: u64) -> Result<String, String> {
-    let mut groups: [Box<dyn Group>; 5] = [
+    let mut groups: [Box<dyn Group>; 6] = [
         Box::new(intervals::calls()),
         Box::new(boxes::calls()),
         Box::new(records::merges()),
         Box::new(records::folds()),
         Box::new(filters::calls()),
+        Box::new(layouts::calls()),
     ];
     let values = cases::values();
     let mut random = Random::new(seed, &values);

@@ -1,6 +1,6 @@
 //! Cases and what calls gave, as text: each double by its bits and as a number.
 
-use crate::cases::{BoxCase, FilterCase, IntervalCase, RecordCase};
+use crate::cases::{BoxCase, FilterCase, IntervalCase, LayoutCase, RecordCase};
 use crate::layout::{Bounds, Record, Records};
 use johikape::Interval;
 use oracle::filters::Boxes;
@@ -53,6 +53,12 @@ impl Display for BoxCase {
     fn fmt(&self, f: &mut Formatter<'_>) -> Result {
         writeln!(f, "a: {}\nb: {}", self.a, self.b)?;
         write!(f, "distance: {}", doubles(&[self.distance]))
+    }
+}
+
+impl Display for LayoutCase {
+    fn fmt(&self, f: &mut Formatter<'_>) -> Result {
+        write!(f, "box: {}\narray: {}", self.bounds, doubles(&self.array))
     }
 }
 
