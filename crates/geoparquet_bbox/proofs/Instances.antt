@@ -1,6 +1,5 @@
 -- The hypotheses of the laws can be met: by a box with z that crosses the antimeridian, and by an array of four numbers. Assumes nothing.
 use mathlib.Core.Path.{_≡_, refl}
-use mathlib.Core.Bool.{true}
 use mathlib.Core.List.{List, [], _∷_}
 use mathlib.Core.Logic.{inl}
 use Prim.Native.Nat.{ℕ}

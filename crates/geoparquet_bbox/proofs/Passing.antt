@@ -1,6 +1,6 @@
 -- When nothing is refused, in plain words: `box-passes` and `array-passes`. Assumes nothing.
 use mathlib.Core.Path.{_≡_, refl, sym, ap, _∙_}
-use mathlib.Core.Bool.{Bool, true, false, not, _&&_, _||_, cond, and-eq-true-iff}
+use mathlib.Core.Bool.{Bool, true, false, not, _&&_, cond, and-eq-true-iff}
 use mathlib.Core.List.{List}
 use mathlib.Core.Logic.{_⊎_, inl, inr, _↔_}
 use Prim.Native.Nat.{ℕ}
@@ -14,9 +14,11 @@ use Rattle.sedona_geometry.specs.declared.interval.Interval.{Interval}
 use Rattle.sedona_geometry.specs.declared.bounding_box.Dimension.{Dimension}
 use Rattle.sedona_geometry.specs.declared.bounding_box.Dimension.the-variants.{Missing, Known}
 use Rattle.sedona_geometry.specs.declared.bounding_box.BoundingBox.{BoundingBox}
+use Rattle.sedona_geometry.specs.declared.bounding_box.NumberedBox.{NumberedBox}
 use Rattle.sedona_geometry.proofs.Order.{holds, fails, is-true, is-false, le-of-not-lt, lt-not-le}
 use Rattle.geoparquet_bbox.specs.Error as error
 use Rattle.geoparquet_bbox.specs.Layout.{isFinite, areFinite, isRising, risesWhereKnown, isKnown, numbersRefusal, boxRefusal, arrayRefusal, boxOfFour, boxOfSix, boxOf, toGeoparquet, fromGeoparquet, Finite, Rising, RisingWhereKnown, Publishable, PublishableArray}
+use Rattle.geoparquet_bbox.specs.declared.layout.NumberedArray.{NumberedArray}
 use Rattle.geoparquet_bbox.proofs.Finite.{finite-number}
 
 -- ---- an interval
@@ -54,15 +56,9 @@ passes-by : (t : Bool) (n : ℕ) → (n ≡ 0 → ⊥) → (cond t 0 n ≡ 0) �
 passes-by true n h = (λ e. refl, λ e. refl)
 passes-by false n h = (λ e. absurd (h e), λ e. absurd (holds e))
 
--- a box that its numbers do not refuse, and that has no m
-record Numbers (b : BoundingBox) : Type 0 where
-  x : Finite (b .x .inner)
-  y : Rising (b .y)
-  z : RisingWhereKnown (b .z)
-
-numbers-pass : (b : BoundingBox) → (numbersRefusal b ≡ 0) ↔ Numbers b
+numbers-pass : (b : BoundingBox) → b .m ≡ Missing → (numbersRefusal b ≡ 0) ↔ Publishable b
 unfolding numbersRefusal
-numbers-pass b =
+numbers-pass b no-m =
     let x = areFinite (b .x .inner) in
     let y = isRising (b .y) in
     let z = risesWhereKnown (b .z) in
@@ -73,49 +69,49 @@ numbers-pass b =
         x = are-finite (b .x .inner) .0 (two .0 (t .0) .0);
         y = is-rising (b .y) .0 (two .0 (t .0) .1);
         z = rises-where-known (b .z) .0 (t .1);
+        m = no-m;
       },
-      λ n. pass .1 (all .1 (two .1 (are-finite (b .x .inner) .1 (n .x), is-rising (b .y) .1 (n .y)), rises-where-known (b .z) .1 (n .z))),
+      λ p. pass .1 (all .1 (two .1 (are-finite (b .x .inner) .1 (p .x), is-rising (b .y) .1 (p .y)), rises-where-known (b .z) .1 (p .z))),
     )
 
--- the number of an answer is that of the refusal
+-- a known m refuses, and else the numbers do
+pub by-m : (b : BoundingBox) {m : Dimension} → b .m ≡ m → boxRefusal b ≡ cond (isKnown m) error.knownM (numbersRefusal b)
+unfolding boxRefusal
+by-m b e = ap (λ (m : Dimension). cond (isKnown m) error.knownM (numbersRefusal b)) e
+
+-- the number of an answer that is given where n is 0, and else refused by n
+number-is : {A : Type 0} (number : A → ℕ) (n : ℕ) {given refused : A} → number given ≡ 0 → number refused ≡ n → number (cond (eqb n 0) given refused) ≡ n
+number-is number n {given} {refused} e f = go (eqb n 0) refl
+  where
+    go : (t : Bool) → eqb n 0 ≡ t → number (cond t given refused) ≡ n
+    go true h = e ∙ sym (eqb-true n 0 h)
+    go false h = f
+
 pub to-number : (b : BoundingBox) → toGeoparquet b .number ≡ boxRefusal b
 unfolding toGeoparquet
-to-number b = go (eqb (boxRefusal b) 0) refl
-  where
-    go : (t : Bool) → eqb (boxRefusal b) 0 ≡ t → toGeoparquet b .number ≡ boxRefusal b
-    go true e = rw e (sym (eqb-true (boxRefusal b) 0 e))
-    go false e = rw e
-
-pub from-number : (vs : List Float) → fromGeoparquet vs .number ≡ arrayRefusal vs
-unfolding fromGeoparquet numbered
-from-number vs = go (eqb (arrayRefusal vs) 0) refl
-  where
-    go : (t : Bool) → eqb (arrayRefusal vs) 0 ≡ t → fromGeoparquet vs .number ≡ arrayRefusal vs
-    go true e = rw e (sym (eqb-true (arrayRefusal vs) 0 e))
-    go false e = rw e
-
--- where m is missing, the numbers decide
-pub without-m : (b : BoundingBox) → b .m ≡ Missing → boxRefusal b ≡ numbersRefusal b
-unfolding boxRefusal
-without-m b e = ap (λ (m : Dimension). cond (isKnown m) error.knownM (numbersRefusal b)) e
-
-pub with-m : (b : BoundingBox) {i : Interval} → b .m ≡ Known i → boxRefusal b ≡ error.knownM
-unfolding boxRefusal
-with-m b e = ap (λ (m : Dimension). cond (isKnown m) error.knownM (numbersRefusal b)) e
+to-number b = number-is (λ (a : NumberedArray). a .number) (boxRefusal b) refl refl
 
 -- Towards an array nothing refuses a box exactly where it is publishable.
 pub box-passes : (b : BoundingBox) → (toGeoparquet b .number ≡ 0) ↔ Publishable b
 box-passes b = (
   λ e. there (b .m) refl (sym (to-number b) ∙ e),
-  λ p. to-number b ∙ without-m b (p .m) ∙ numbers-pass b .1 (record { x = p .x; y = p .y; z = p .z }),
+  λ p. to-number b ∙ by-m b (p .m) ∙ numbers-pass b (p .m) .1 p,
 )
   where
     there : (m : Dimension) → b .m ≡ m → boxRefusal b ≡ 0 → Publishable b
-    there Missing e h = let n = numbers-pass b .0 (sym (without-m b e) ∙ h) in record { x = n .x; y = n .y; z = n .z; m = e }
-    there (Known i) e h = let k = sym (with-m b e) ∙ h in absurd (omega arith)
+    there Missing e h = numbers-pass b e .0 (sym (by-m b e) ∙ h)
+    there (Known i) e h = let k = sym (by-m b e) ∙ h in absurd (omega arith)
 
 -- ---- an array
--- of four numbers or six, the numbers decide
+no-m : (vs : List Float) → boxOf vs .m ≡ Missing
+unfolding boxOf
+no-m vs = go (eqb (length vs) 4)
+  where
+    go : (four : Bool) → cond four (boxOfFour vs) (boxOfSix vs) .m ≡ Missing
+    go true = refl
+    go false = refl
+
+-- of four numbers or six, the numbers refuse, and else the length does
 four-or-six : (vs : List Float) → (length vs ≡ 4) ⊎ (length vs ≡ 6) → arrayRefusal vs ≡ numbersRefusal (boxOf vs)
 unfolding arrayRefusal
 four-or-six vs (inl e) = rw (eq-eqb (length vs) 4 e)
@@ -125,25 +121,19 @@ neither : (vs : List Float) → eqb (length vs) 4 ≡ false → eqb (length vs) 
 unfolding arrayRefusal
 neither vs e f = rw (e, f)
 
-no-m : (vs : List Float) → boxOf vs .m ≡ Missing
-unfolding boxOf
-no-m vs = go (eqb (length vs) 4)
-  where
-    go : (four : Bool) → cond four (boxOfFour vs) (boxOfSix vs) .m ≡ Missing
-    go true = refl
-    go false = refl
+pub from-number : (vs : List Float) → fromGeoparquet vs .number ≡ arrayRefusal vs
+unfolding fromGeoparquet numbered
+from-number vs = number-is (λ (a : NumberedBox). a .number) (arrayRefusal vs) refl refl
 
 -- From an array nothing refuses it exactly where it has four numbers or six, of a box that is publishable.
 pub array-passes : (vs : List Float) → (fromGeoparquet vs .number ≡ 0) ↔ PublishableArray vs
 array-passes vs = (
   λ e. there (eqb (length vs) 4) (eqb (length vs) 6) refl refl (sym (from-number vs) ∙ e),
-  λ p. from-number vs ∙ four-or-six vs (p .fourOrSix) ∙ numbers-pass (boxOf vs) .1 (record { x = p .bounds .x; y = p .bounds .y; z = p .bounds .z }),
+  λ p. from-number vs ∙ four-or-six vs (p .fourOrSix) ∙ numbers-pass (boxOf vs) (no-m vs) .1 (p .bounds),
 )
   where
     passed : (length vs ≡ 4) ⊎ (length vs ≡ 6) → arrayRefusal vs ≡ 0 → PublishableArray vs
-    passed l h =
-        let n = numbers-pass (boxOf vs) .0 (sym (four-or-six vs l) ∙ h) in
-        record { fourOrSix = l; bounds = record { x = n .x; y = n .y; z = n .z; m = no-m vs } }
+    passed l h = record { fourOrSix = l; bounds = numbers-pass (boxOf vs) (no-m vs) .0 (sym (four-or-six vs l) ∙ h) }
 
     there : (four six : Bool) → eqb (length vs) 4 ≡ four → eqb (length vs) 6 ≡ six → arrayRefusal vs ≡ 0 → PublishableArray vs
     there true six e f h = passed (inl (eqb-true (length vs) 4 e)) h

@@ -41,6 +41,7 @@ boxOfFour vs = boundingBox.xy (wraparound.fromInterval (intervalAt vs 2 0)) (int
 abbrev pub boxOfSix : List Float → BoundingBox
 boxOfSix vs = boundingBox.xyzm (wraparound.fromInterval (intervalAt vs 3 0)) (intervalAt vs 3 1) (Known (intervalAt vs 3 2)) Missing
 
+-- The box of an array. (One of another length is refused.)
 unfoldable pub boxOf : List Float → BoundingBox
 boxOf vs = cond (eqb (length vs) 4) (boxOfFour vs) (boxOfSix vs)
 
