@@ -51,6 +51,7 @@ fn is_finite(v: f64) -> bool
     abs(v) < infinity()
 }
 
+// Whether both ends are finite.
 fn are_finite(i: Interval) -> bool
     ensures { λ r. ⌜ r ≡ layout.areFinite i ⌝ }
 {
