@@ -66,9 +66,11 @@ box-there-and-back b e =
     let passes = array-passes (arrayOf b) .1 (record { fourOrSix = array-given b .0; bounds = subst Publishable (sym same) p }) in
     rw (to-given b e, array-given b .1) (from-given (arrayOf b) passes ∙ ap accepted same)
 
--- An array that is not refused, turned into a box and back, is the same array.
-pub array-there-and-back : (vs : List Float) → fromGeoparquet vs .number ≡ 0 → toGeoparquet (fromGeoparquet vs .bounds) ≡ given vs
+-- An array that is not refused, turned into a box and back, is given: the same list.
+pub array-there-and-back : (vs : List Float) → fromGeoparquet vs .number ≡ 0
+    → (toGeoparquet (fromGeoparquet vs .bounds) ≡ given vs) × (array (toGeoparquet (fromGeoparquet vs .bounds)) ≡ vs)
 array-there-and-back vs e =
     let p = array-passes vs .0 e in
     let there = to-given (boxOf vs) (box-passes (boxOf vs) .1 (p .bounds)) in
-    rw (from-given vs e) (there ∙ ap given (array-of-box vs (p .fourOrSix)))
+    let same = array-of-box vs (p .fourOrSix) in
+    rw (from-given vs e) (there ∙ ap given same, ap array there ∙ array-given (boxOf vs) .1 ∙ same)
