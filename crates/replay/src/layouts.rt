@@ -10,9 +10,9 @@ use replay_geometry::names::Call;
 use replay_text::output::Buffer;
 use replay_text::output::put;
 use replay_text::output::put_decimal;
+use replay_text::words::MOST_WORDS;
 use replay_text::words::Words;
-use replay_text::write::put_double;
-use sedona_expr::refusals::is_good_flag;
+use replay_text::write::put_doubles;
 use sedona_expr::statistics::Bbox;
 use sedona_expr::tables::box_at;
 
@@ -21,23 +21,21 @@ pub fn put_call_of_layouts(out: &mut Buffer, filled: usize, call: Call, words: W
     if !words.are_doubles {
         return put(out, filled, b'?');
     }
+    let doubles = words.doubles;
     if call.name == FROM_GEOPARQUET {
-        let array = words.doubles;
-        let given = from_geoparquet(first_doubles(words.count, &array));
+        let given = from_geoparquet(first_doubles(words.count, &doubles));
         return put_numbered(out, filled, given);
     }
-    let Bbox::Known(bounds) = flagged_box(words) else {
+    let Bbox::Known(bounds) = flagged_box(doubles, words.sets[BOX]) else {
         return put(out, filled, b'?');
     };
     put_array(out, filled, to_geoparquet(bounds))
 }
 
-// The box of eight ends and a flag; none where the last word is no flag of a box.
-fn flagged_box(words: Words) -> Bbox {
-    let ends = words.doubles;
-    let flag = words.flags[BOX];
-    if words.sets[BOX] == flag as u32 && is_good_flag(false, flag) {
-        return box_at(&ends, &[flag], 0);
+// The box of eight ends and a flag of 1, 3, 5 or 7; else none.
+fn flagged_box(ends: [f64; MOST_WORDS], flag: u32) -> Bbox {
+    if flag < 8 {
+        return box_at(&ends, &[flag as u8], 0);
     }
     Bbox::Missing
 }
@@ -48,16 +46,5 @@ fn put_array(out: &mut Buffer, filled: usize, array: NumberedArray) -> usize {
     let at = put_decimal(out, filled, array.number as u64);
     let at = put(out, at, b' ');
     let at = put_decimal(out, at, array.count as u64);
-    let at = put_next(out, at, numbers[0]);
-    let at = put_next(out, at, numbers[1]);
-    let at = put_next(out, at, numbers[2]);
-    let at = put_next(out, at, numbers[3]);
-    let at = put_next(out, at, numbers[4]);
-    put_next(out, at, numbers[5])
-}
-
-// Puts a space and a number.
-fn put_next(out: &mut Buffer, filled: usize, x: f64) -> usize {
-    let at = put(out, filled, b' ');
-    put_double(out, at, x)
+    put_doubles(out, at, &numbers)
 }

@@ -62,6 +62,16 @@ pub fn put_double(out: &mut Buffer, filled: usize, x: f64) -> usize {
     }
 }
 
+// Puts doubles, each behind a space.
+pub fn put_doubles(out: &mut Buffer, filled: usize, doubles: &[f64]) -> usize {
+    let mut at = filled;
+    for i in 0..doubles.len() {
+        at = put(out, at, b' ');
+        at = put_double(out, at, doubles[i]);
+    }
+    at
+}
+
 // Puts the sign of a double; a zero has none.
 fn put_sign(out: &mut Buffer, filled: usize, x: f64) -> usize {
     if x < 0.0 {
