@@ -47,9 +47,9 @@ fn put_evaluation(out: &mut Buffer, filled: usize, evaluation: Evaluation) -> us
 }
 
 // Puts a number and a box.
-pub fn put_numbered(out: &mut Buffer, filled: usize, filter_box: NumberedBox) -> usize {
-    let bounds = filter_box.bounds;
-    let at = put_decimal(out, filled, filter_box.number as u64);
+pub fn put_numbered(out: &mut Buffer, filled: usize, numbered: NumberedBox) -> usize {
+    let bounds = numbered.bounds;
+    let at = put_decimal(out, filled, numbered.number as u64);
     let at = put(out, at, b' ');
     put_box(out, at, bounds)
 }

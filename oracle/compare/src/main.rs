@@ -4,9 +4,9 @@ mod boxes;
 mod cases;
 mod compared;
 mod filters;
+mod geoparquet;
 mod intervals;
 mod layout;
-mod layouts;
 mod library;
 mod records;
 mod show;
@@ -60,7 +60,7 @@ fn compare(seed: u64, count: u64) -> Result<String, String> {
         Box::new(records::merges()),
         Box::new(records::folds()),
         Box::new(filters::calls()),
-        Box::new(layouts::calls()),
+        Box::new(geoparquet::calls()),
     ];
     let values = cases::values();
     let mut random = Random::new(seed, &values);

@@ -1,4 +1,4 @@
-//! The calls of the two layouts.
+//! The calls of GeoParquet's `bbox` arrays.
 
 use crate::cases::LayoutCase;
 use crate::compared::{Answer, Call, Given, NUMBER};
