@@ -1,7 +1,7 @@
 //! Rows of filters: may a file match, and the filter's box.
 
 use crate::draws::Draws;
-use crate::layout::{Boxes, Ends, Filter};
+use crate::layout::{Columns, Ends, Filter};
 use crate::library;
 use crate::timing::{Bench, Row};
 use oracle::bounding_box::BoundingBox;
@@ -10,6 +10,7 @@ use oracle::shims::datafusion_common::Result;
 use oracle::shims::datafusion_physical_expr::expressions::Column;
 use oracle::spatial_filter::{SpatialFilter, TableGeoStatistics};
 use oracle::statistics::GeoStatistics;
+use oracle::types::GeometryTypeAndDimensionsSet;
 
 pub fn rows(bench: &Bench) {
     let small = [
@@ -20,6 +21,7 @@ pub fn rows(bench: &Bench) {
     for query in &small {
         query.time_by_position(bench);
     }
+    Query::of(SpatialFilter::HasZ(column(0)), 1, &[0]).time_by_position(bench);
     for query in &small {
         query.time_by_name(bench);
     }
@@ -46,14 +48,17 @@ struct Query {
 struct File {
     by_position: TableGeoStatistics,
     by_name: TableGeoStatistics,
-    records: Boxes,
+    records: Columns,
     names: Vec<u32>,
 }
 
 impl Query {
     /// A query of so many leaves, for files of so many columns, of which it wants some.
     fn new(leaves: usize, columns: usize, wanted: &[usize]) -> Query {
-        let tree = tree(leaves, wanted);
+        Query::of(tree(leaves, wanted), columns, wanted)
+    }
+
+    fn of(tree: SpatialFilter, columns: usize, wanted: &[usize]) -> Query {
         Query {
             filter: Filter::of(&tree),
             files: files(&tree, columns, wanted),
@@ -63,7 +68,10 @@ impl Query {
     }
 
     fn nodes(&self) -> String {
-        count(self.filter.nodes.len(), "node")
+        match self.tree {
+            SpatialFilter::HasZ(_) => "a HasZ".to_string(),
+            _ => count(self.filter.nodes.len(), "node"),
+        }
     }
 
     fn row(&self, call: &str) -> Row<'_, File> {
@@ -124,11 +132,15 @@ fn name(column: usize) -> String {
     format!("c{column}")
 }
 
+fn column(index: usize) -> Column {
+    Column::new(&name(index), index)
+}
+
 /// A balanced tree of so many leaves over the wanted columns in turn: every fifth leaf is a Covers,
 /// and every second pair an Or.
 fn tree(leaves: usize, wanted: &[usize]) -> SpatialFilter {
     let mut level: Vec<SpatialFilter> = (0..leaves)
-        .map(|k| leaf(k, wanted[k % wanted.len()]))
+        .map(|k| leaf(k, column(wanted[k % wanted.len()])))
         .collect();
     while level.len() > 1 {
         let mut nodes = level.into_iter();
@@ -146,53 +158,53 @@ fn tree(leaves: usize, wanted: &[usize]) -> SpatialFilter {
 
 /// No x of a literal wraps: in the filter's box such a one can have two parts in common with
 /// another, and the Rust would be timed at the text of its error.
-fn leaf(k: usize, column: usize) -> SpatialFilter {
+fn leaf(k: usize, column: Column) -> SpatialFilter {
     let x = [(0.0, 10.0), (-60.0, 60.0), (-20.0, 30.0), (5.0, 8.0)][k % 4];
     let (z, m) = (Interval::new(0.0, 5.0), Interval::new(55.0, 80.0));
     let bbox = BoundingBox::xyzm(x, (0.0, 10.0), Some(z), Some(m));
-    let column = Column::new(&name(column), column);
     match k % 5 {
         4 => SpatialFilter::Covers(column, bbox),
         _ => SpatialFilter::Intersects(column, bbox),
     }
 }
 
+/// The types of one file and the next: points, and points with z.
+const TYPES: [u32; 2] = [1 << 1, 1 << 9];
+
 /// Draws files until there are enough of both answers, and puts the answers in turns. Only the wanted
 /// columns are drawn, so that rows of different widths ask the same question.
 fn files(tree: &SpatialFilter, columns: usize, wanted: &[usize]) -> Vec<File> {
     let mut draws = Draws::new();
+    let mut types = TYPES.into_iter().cycle();
     let [mut cannot, mut may] = [Vec::new(), Vec::new()];
     while cannot.len() < FILES || may.len() < FILES {
-        let drawn: Vec<BoundingBox> = wanted.iter().map(|_| draws.bounding_box()).collect();
-        let mut boxes = vec![drawn[0].clone(); columns];
-        for (column, bbox) in wanted.iter().zip(drawn) {
-            boxes[*column] = bbox;
+        let types = types.next().map(GeometryTypeAndDimensionsSet::from_bits);
+        let points = GeoStatistics::unspecified().with_geometry_types(types);
+        let record = |_| points.clone().with_bbox(Some(draws.bounding_box()));
+        let drawn: Vec<GeoStatistics> = wanted.iter().map(record).collect();
+        let mut records = vec![drawn[0].clone(); columns];
+        for (column, record) in wanted.iter().zip(drawn) {
+            records[*column] = record;
         }
-        let by_position = TableGeoStatistics::ByPosition(boxes.iter().map(statistics).collect());
+        let by_position = TableGeoStatistics::ByPosition(records.clone());
         let matches = tree.evaluate(&by_position).expect(LENT);
         let list = if matches { &mut may } else { &mut cannot };
         if list.len() < FILES {
-            list.push(file(by_position, &boxes));
+            list.push(file(by_position, &records));
         }
     }
     let pairs = cannot.into_iter().zip(may);
     pairs.flat_map(|(cannot, may)| [cannot, may]).collect()
 }
 
-fn file(by_position: TableGeoStatistics, boxes: &[BoundingBox]) -> File {
-    let mut records = Boxes::default();
-    boxes.iter().for_each(|bbox| records.push(bbox));
-    let named = boxes.iter().enumerate();
+fn file(by_position: TableGeoStatistics, records: &[GeoStatistics]) -> File {
+    let named = records.iter().enumerate();
     File {
         by_position,
         by_name: TableGeoStatistics::ByName(
-            named.map(|(k, bbox)| (name(k), statistics(bbox))).collect(),
+            named.map(|(k, record)| (name(k), record.clone())).collect(),
         ),
-        records,
-        names: (0..boxes.len() as u32).collect(),
+        records: Columns::of(records),
+        names: (0..records.len() as u32).collect(),
     }
-}
-
-fn statistics(bbox: &BoundingBox) -> GeoStatistics {
-    GeoStatistics::unspecified().with_bbox(Some(bbox.clone()))
 }

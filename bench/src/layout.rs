@@ -46,10 +46,31 @@ pub struct Boxes {
 }
 
 impl Boxes {
-    pub fn push(&mut self, bbox: &BoundingBox) {
-        let ends = Ends::of(bbox);
+    pub fn push(&mut self, ends: Ends) {
         self.doubles.push(ends.doubles);
         self.flags.push(ends.flags);
+    }
+}
+
+/// What a filter reads of the records of columns: boxes and types, and 1 where the types are known.
+#[derive(Default)]
+pub struct Columns {
+    pub boxes: Boxes,
+    pub types: Vec<u32>,
+    pub types_known: Vec<u8>,
+}
+
+impl Columns {
+    pub fn of(records: &[GeoStatistics]) -> Columns {
+        let mut columns = Columns::default();
+        for record in records {
+            let ends = record.bbox().map(Ends::of).unwrap_or_default();
+            let types = record.geometry_types().map(|types| types.bits());
+            columns.boxes.push(ends);
+            columns.types.push(types.unwrap_or_default());
+            columns.types_known.push(types.is_some().into());
+        }
+        columns
     }
 }
 
@@ -72,6 +93,7 @@ impl Filter {
         let node = match tree {
             SpatialFilter::Intersects(column, bbox) => self.leaf(0, column.index(), bbox),
             SpatialFilter::Covers(column, bbox) => self.leaf(1, column.index(), bbox),
+            SpatialFilter::HasZ(column) => [2, column.index() as u32, column.index() as u32, 0],
             SpatialFilter::And(left, right) => [3, self.push(left), self.push(right), 0],
             SpatialFilter::Or(left, right) => [4, self.push(left), self.push(right), 0],
             _ => unreachable!("the trees timed here have no other nodes"),
@@ -81,7 +103,7 @@ impl Filter {
     }
 
     fn leaf(&mut self, kind: u32, column: usize, bbox: &BoundingBox) -> [u32; 4] {
-        self.literals.push(bbox);
+        self.literals.push(Ends::of(bbox));
         let literal = self.literals.flags.len() as u32 - 1;
         [kind, column as u32, column as u32, literal]
     }

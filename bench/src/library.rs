@@ -1,7 +1,7 @@
 //! Calls of the library over tables made beforehand. The crate of bindings/rust makes its tables at
 //! each call; here the library alone is timed.
 
-use crate::layout::{Boxes, Ends, Filter, Record, Records};
+use crate::layout::{Columns, Ends, Filter, Record, Records};
 use johikape::raw;
 
 pub fn fold(records: &Records) -> (u32, Record) {
@@ -19,23 +19,27 @@ pub fn fold(records: &Records) -> (u32, Record) {
     (number, out)
 }
 
-pub fn evaluate_by_position(filter: &Filter, records: &Boxes) -> u32 {
+pub fn evaluate_by_position(filter: &Filter, columns: &Columns) -> u32 {
     raw::evaluate_by_position(
         filter.nodes.as_flattened(),
         filter.literals.doubles.as_flattened(),
         &filter.literals.flags,
-        records.doubles.as_flattened(),
-        &records.flags,
+        columns.boxes.doubles.as_flattened(),
+        &columns.boxes.flags,
+        &columns.types,
+        &columns.types_known,
     )
 }
 
-pub fn evaluate_by_name(filter: &Filter, records: &Boxes, names: &[u32]) -> u32 {
+pub fn evaluate_by_name(filter: &Filter, columns: &Columns, names: &[u32]) -> u32 {
     raw::evaluate_by_name(
         filter.nodes.as_flattened(),
         filter.literals.doubles.as_flattened(),
         &filter.literals.flags,
-        records.doubles.as_flattened(),
-        &records.flags,
+        columns.boxes.doubles.as_flattened(),
+        &columns.boxes.flags,
+        &columns.types,
+        &columns.types_known,
         names,
     )
 }

@@ -93,14 +93,22 @@ static uint8_t *flags(size_t count) {
     return list;
 }
 
+/* Known bytes, now and then of any bits. */
+static uint8_t *known(size_t count) {
+    uint8_t *list = room(count);
+    for (size_t i = 0; i < count; i++)
+        list[i] = (uint8_t)(below(50) ? below(2) : bits());
+    return list;
+}
+
 /* A chain of leaves with a word or two of garbage, and cut anywhere. */
 static uint32_t *filter(size_t count) {
-    static const uint32_t kinds[] = {JOHIKAPE_INTERSECTS, JOHIKAPE_COVERS, JOHIKAPE_LITERAL_FALSE,
-                                     JOHIKAPE_UNKNOWN};
+    static const uint32_t kinds[] = {JOHIKAPE_INTERSECTS, JOHIKAPE_COVERS, JOHIKAPE_HAS_Z,
+                                     JOHIKAPE_LITERAL_FALSE, JOHIKAPE_UNKNOWN};
     uint32_t *list = words(count, 4);
     for (size_t i = 0; i + 4 <= count; i += 4) {
         const uint32_t node = (uint32_t)(i / 4);
-        list[i] = kinds[below(4)];
+        list[i] = kinds[below(5)];
         if (node > 0 && node % 2 == 0) {
             list[i] = below(2) ? JOHIKAPE_AND : JOHIKAPE_OR;
             list[i + 1] = node - 2;
@@ -117,9 +125,9 @@ static void fail(const char *name, const char *what) {
     exit(1);
 }
 
-/* A number is one that the call can give. */
+/* A number is one that the call can give: 2 and 6 are given by none. */
 static void gives(const char *name, uint32_t given, uint32_t most) {
-    if (given > most || given >= NUMBERS)
+    if (given > most || given >= NUMBERS || given == 2 || given == 6)
         fail(name, "a number that it cannot give");
     counts[given]++;
 }
@@ -235,10 +243,13 @@ static void filters(void) {
     const size_t most = below(100) ? 12 : MOST_NODES;
     const size_t columns = 4 + below(4), literals = 4 + below(4);
     const size_t n = length(4 * (2 * below(most / 2) + 1)), l = length(8 * literals), lf = length(literals);
-    const size_t r = length(8 * columns), rf = length(columns), names_count = length(columns);
+    const size_t r = length(8 * columns), rf = length(columns), rt = length(columns);
+    const size_t tk = length(columns), names_count = length(columns);
     const uint32_t *nodes = filter(n);
     const double *literal_ends = doubles(l), *record_ends = doubles(r);
-    const uint8_t *literal_flags = flags(lf), *record_flags = flags(rf);
+    const uint8_t *literal_flags = flags(lf), *record_flags = flags(rf), *types_known = known(tk);
+    /* Half of the lists have hardly a type with z. */
+    const uint32_t *record_types = words(rt, below(2) ? 256 : UINT32_MAX);
     uint32_t *names = words(names_count, 8);
     for (size_t i = 0; i < names_count && below(4); i++)
         names[i] = (uint32_t)i;
@@ -247,11 +258,12 @@ static void filters(void) {
     const void *before = copy(ends, 8 * sizeof *ends), *before_flags = copy(out_flags, 1);
     gives("evaluate_by_position",
           johikape_evaluate_by_position(nodes, n, literal_ends, l, literal_flags, lf, record_ends, r,
-                                        record_flags, rf),
+                                        record_flags, rf, record_types, rt, types_known, tk),
           JOHIKAPE_NO_COLUMN);
     gives("evaluate_by_name",
           johikape_evaluate_by_name(nodes, n, literal_ends, l, literal_flags, lf, record_ends, r,
-                                    record_flags, rf, names, names_count),
+                                    record_flags, rf, record_types, rt, types_known, tk, names,
+                                    names_count),
           JOHIKAPE_NAME_TWICE);
     const uint32_t given = johikape_filter_bbox(nodes, n, literal_ends, l, literal_flags, lf,
                                                 (uint32_t)below(8), ends, out_flags);

@@ -19,9 +19,13 @@
  *
  * A FILTER is a list of nodes, four words each; the last is the root. The words are a kind and
  *     JOHIKAPE_INTERSECTS, JOHIKAPE_COVERS    column index, name number, literal number
+ *     JOHIKAPE_HAS_Z                          column index, name number, unread
  *     JOHIKAPE_AND, JOHIKAPE_OR               left node, right node (both below it), unread
  *     JOHIKAPE_LITERAL_FALSE, JOHIKAPE_UNKNOWN    three words unread
- * Literals and the columns' records are lists of boxes: eight doubles each, and a list of flags. */
+ * Literals and the columns' records are lists of boxes: eight doubles each, and a list of flags. A
+ * record has a type set too, and a known byte, 1 where its types are known, else 0. A HasZ may match
+ * unless the record's z is known and empty, or its types are known and none of them has z (bits 8 to
+ * 15 and 24 to 31). */
 #ifndef JOHIKAPE_H
 #define JOHIKAPE_H
 
@@ -40,9 +44,8 @@ enum johikape_number {
     JOHIKAPE_OVERFLOW = 3,     /* a total leaves the range of an int64_t */
     JOHIKAPE_WORDS = 4,        /* node words none, not in fours, or over 4,096 */
     JOHIKAPE_UNKNOWN_KIND = 5, /* a kind over 6 */
-    JOHIKAPE_HAS_Z = 6,        /* a node of kind 2, HasZ */
     JOHIKAPE_BAD_TREE = 7,     /* a child not below its parent, or a node but the root not used once */
-    JOHIKAPE_BOXES = 8,        /* bad flags, or lists whose lengths do not fit */
+    JOHIKAPE_BOXES = 8,        /* bad flags or known bytes, or lists whose lengths do not fit */
     JOHIKAPE_NO_LITERAL = 9,   /* a literal number that is not lent */
     JOHIKAPE_NO_COLUMN = 10,   /* by position: a column index that is not lent */
     JOHIKAPE_NAME_TWICE = 11,  /* by name: a name number twice among the records */
@@ -88,6 +91,7 @@ enum johikape_record_flag {
 enum johikape_kind {
     JOHIKAPE_INTERSECTS = 0,
     JOHIKAPE_COVERS = 1,
+    JOHIKAPE_HAS_Z = 2,
     JOHIKAPE_AND = 3,
     JOHIKAPE_OR = 4,
     JOHIKAPE_LITERAL_FALSE = 5,
@@ -102,15 +106,19 @@ uint32_t johikape_evaluate_by_position(const uint32_t *nodes, size_t nodes_count
                                        const double *literals, size_t literals_count,
                                        const uint8_t *literal_flags, size_t literal_flags_count,
                                        const double *records, size_t records_count,
-                                       const uint8_t *record_flags, size_t record_flags_count);
+                                       const uint8_t *record_flags, size_t record_flags_count,
+                                       const uint32_t *record_types, size_t record_types_count,
+                                       const uint8_t *types_known, size_t types_known_count);
 
 /* The same; or a number from 4 to 9, or 11. A leaf's name number is sought among the names, one for
- * each record; one that is not there counts as a record without a box. */
+ * each record; one that is not there counts as a record without a box and without types. */
 uint32_t johikape_evaluate_by_name(const uint32_t *nodes, size_t nodes_count,
                                    const double *literals, size_t literals_count,
                                    const uint8_t *literal_flags, size_t literal_flags_count,
                                    const double *records, size_t records_count,
                                    const uint8_t *record_flags, size_t record_flags_count,
+                                   const uint32_t *record_types, size_t record_types_count,
+                                   const uint8_t *types_known, size_t types_known_count,
                                    const uint32_t *names, size_t names_count);
 
 /* The filter's box for the column of a name number, into ends and flags: what an index scan looks

@@ -46,8 +46,10 @@ int main(void) {
             return 1;
         }
         const uint8_t record_flags[1] = {(uint8_t)(folded_flags % 8)};
+        const uint8_t types_known[1] = {(folded_flags & JOHIKAPE_TYPES) != 0};
         uint32_t answer = johikape_evaluate_by_position(filter, 4, above_55, 8, literal_flags, 1,
-                                                        folded, 8, record_flags, 1);
+                                                        folded, 8, record_flags, 1,
+                                                        &folded_types, 1, types_known, 1);
         printf("%-18s %3lld readings, %.1f to %.1f degrees: %s\n", names[file],
                (long long)folded_totals[2], folded[6], folded[7],
                answer == JOHIKAPE_MAY_MATCH      ? "may match, read it"

@@ -49,7 +49,7 @@ const HEADER: &str = "\
 ";
 
 /// The case file: a sweep of every call whose operands are listed, and the cases of singles.txt,
-/// filters.txt and layouts.txt.
+/// filters.txt, layouts.txt and has_z.txt.
 pub fn cases(calls: &[Call]) -> String {
     let sweeps: String = calls
         .iter()
@@ -74,6 +74,7 @@ fn singles() -> String {
         include_str!("singles.txt"),
         include_str!("filters.txt"),
         include_str!("layouts.txt"),
+        include_str!("has_z.txt"),
     ];
     let lines = files.into_iter().flat_map(str::lines);
     lines.map(|line| spelled(line) + "\n").collect()

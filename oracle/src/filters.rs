@@ -8,6 +8,7 @@ use crate::shims::datafusion_physical_expr::expressions::Column;
 use crate::spatial_filter::{SpatialFilter, TableGeoStatistics};
 use crate::statistics::GeoStatistics;
 use crate::text;
+use crate::types::GeometryTypeAndDimensionsSet as Set;
 
 /// The most words of a line, and of a chain: one node more than a filter may have.
 pub const MOST_WORDS: usize = 48;
@@ -19,6 +20,9 @@ pub struct Tables {
     pub nodes: Vec<u32>,
     pub literals: Boxes,
     pub records: Boxes,
+    /// The types of each record, and whether they are known.
+    pub record_types: Vec<u32>,
+    pub types_known: Vec<u8>,
     pub names: Vec<u32>,
 }
 
@@ -45,11 +49,20 @@ impl Tables {
             "literals" => self.literals.ends = read_list(words, text::read)?,
             "literal_flags" => self.literals.flags = read_list(words, read_flag)?,
             "records" => self.records.ends = read_list(words, text::read)?,
-            "record_flags" => self.records.flags = read_list(words, read_flag)?,
+            "record_flags" => self.set_record_flags(read_list(words, read_flag)?),
+            "record_types" => self.record_types = read_list(words, text::read_set)?,
+            "types_known" => self.types_known = read_list(words, read_flag)?,
             "names" => self.names = read_list(words, text::read_set)?,
             _ => return None,
         }
         Some(())
+    }
+
+    /// Sets the flags of records, and as many types, none of which are known.
+    fn set_record_flags(&mut self, flags: Vec<u8>) {
+        self.record_types = vec![0; flags.len()];
+        self.types_known = vec![0; flags.len()];
+        self.records.flags = flags;
     }
 
     /// The lines that set these tables.
@@ -63,6 +76,8 @@ impl Tables {
             text::write_line("literal_flags", &written(&literals.flags)),
             text::write_line("records", &text::write_operands(&records.ends)),
             text::write_line("record_flags", &written(&records.flags)),
+            text::write_line("record_types", &written(&self.record_types)),
+            text::write_line("types_known", &written(&self.types_known)),
             text::write_line("names", &written(&self.names)),
         ]
         .concat()
@@ -123,6 +138,7 @@ impl Tables {
         match kind {
             0 => SpatialFilter::Intersects(column(), literal()),
             1 => SpatialFilter::Covers(column(), literal()),
+            2 => SpatialFilter::HasZ(column()),
             3 => SpatialFilter::And(child(first), child(second)),
             4 => SpatialFilter::Or(child(first), child(second)),
             5 => SpatialFilter::LiteralFalse,
@@ -135,7 +151,11 @@ impl Tables {
         let flags = self.records.flags.iter().enumerate();
         let records = flags.map(|(place, flag)| {
             let bounds = (*flag != 0).then(|| self.records.bounds(place));
-            GeoStatistics::unspecified().with_bbox(bounds)
+            let is_known = self.types_known[place] != 0;
+            let types = is_known.then(|| Set::from_bits(self.record_types[place]));
+            GeoStatistics::unspecified()
+                .with_bbox(bounds)
+                .with_geometry_types(types)
         });
         if lookup == Lookup::ByPosition {
             return TableGeoStatistics::ByPosition(records.collect());

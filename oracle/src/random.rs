@@ -13,6 +13,9 @@ const LAYOUT_CALLS: usize = 2;
 /// What a box may know besides x and y, as flags: nothing, z, m, or both.
 const FLAGS: [u8; 4] = [1, 3, 5, 7];
 
+/// The empty interval, and one that is empty because its width rounds to -inf.
+const EMPTY: [[f64; 2]; 2] = [[f64::INFINITY, f64::NEG_INFINITY], [f64::MAX, f64::MIN]];
+
 /// `count` cases, the same ones for the same seed. Doubles of note are drawn from `values`.
 pub fn cases(calls: &[Call], values: &[f64], seed: u64, count: usize) -> String {
     let mut random = Random::new(seed, values);
@@ -163,7 +166,7 @@ impl Random<'_> {
         match self.below(16) {
             0..8 => ends.sort_by(f64::total_cmp),
             8..14 => ends.sort_by(|a, b| b.total_cmp(a)),
-            14 => ends.copy_from_slice(&[f64::INFINITY, f64::NEG_INFINITY]),
+            14 => ends.copy_from_slice(&EMPTY[self.below(EMPTY.len())]),
             _ => ends[self.below(2)] = f64::NAN,
         }
     }

@@ -9,11 +9,12 @@ const MOST_WORDS: usize = 4096;
 /// A kind over `LAST_KIND`.
 const KIND: u64 = 5;
 const LAST_KIND: u32 = 6;
-const HAS_Z: u64 = 6;
 /// A child not below its parent, or a node but the root not used exactly once.
 const TREE: u64 = 7;
-/// Doubles not eight a flag, bad flags, or, by name, not as many names as records.
+/// Doubles not eight a flag, bad flags, not as many types or known bytes as records, a known byte
+/// over `LAST_KNOWN`, or, by name, not as many names as records.
 const BOXES: u64 = 8;
+const LAST_KNOWN: u8 = 1;
 /// A literal that is not lent.
 const LITERAL: u64 = 9;
 /// By position: a column that is not lent.
@@ -29,6 +30,7 @@ pub fn check(tables: &Tables, lookup: Lookup) -> Result<(), u64> {
     refuse(!are_boxes(&tables.literals, &[1, 3, 5, 7]), BOXES)?;
     if lookup != Lookup::Nothing {
         refuse(!are_boxes(&tables.records, &[0, 1, 3, 5, 7]), BOXES)?;
+        refuse(!are_types(tables), BOXES)?;
     }
     if lookup == Lookup::ByName {
         let names = &tables.names;
@@ -51,15 +53,22 @@ fn are_boxes(boxes: &Boxes, flags: &[u8]) -> bool {
     boxes.ends.len() == 8 * boxes.flags.len() && boxes.flags.iter().all(is_good)
 }
 
+fn are_types(tables: &Tables) -> bool {
+    let (types, known) = (&tables.record_types, &tables.types_known);
+    let is_good = |byte: &u8| *byte <= LAST_KNOWN;
+    [types.len(), known.len()] == [tables.records.flags.len(); 2] && known.iter().all(is_good)
+}
+
 fn check_node(tables: &Tables, lookup: Lookup, node: usize) -> Result<(), u64> {
     let [kind, first, second, third] = tables.node(node);
     refuse(kind > LAST_KIND, KIND)?;
-    refuse(kind == 2, HAS_Z)?;
     if kind == 3 || kind == 4 {
         refuse(first.max(second) as usize >= node, TREE)?;
     }
     if kind == 0 || kind == 1 {
         refuse(third as usize >= tables.literals.flags.len(), LITERAL)?;
+    }
+    if kind <= 2 {
         let is_lent = (first as usize) < tables.records.flags.len();
         refuse(lookup == Lookup::ByPosition && !is_lent, COLUMN)?;
     }

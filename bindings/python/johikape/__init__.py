@@ -1,9 +1,9 @@
 """Johikape: which files of a spatial archive a query may skip.
 
-A file keeps a record of each column: a box over x, y, z and m, and totals. A filter held against
-the records says that the file may match, or that it cannot match and may be skipped. Here a file of
-readings on a compost site has two parts, with degrees as m; wanted is what is above 55 degrees in
-pile six:
+A file keeps a record of each column: a box over x, y, z and m, a type set, and totals. A filter
+held against the records says that the file may match, or that it cannot match and may be skipped.
+Here a file of readings on a compost site has two parts, with degrees as m; wanted is what is above
+55 degrees in pile six:
 
 >>> from johikape import BoundingBox, Column, Filter, GeoStatistics, fold
 >>> tuesday = fold([

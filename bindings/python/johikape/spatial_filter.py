@@ -58,6 +58,7 @@ class _Kind(IntEnum):
 
     INTERSECTS = 0
     COVERS = 1
+    HAS_Z = 2
     AND = 3
     OR = 4
     LITERAL_FALSE = 5
@@ -65,9 +66,11 @@ class _Kind(IntEnum):
 
 
 class _Leaf(NamedTuple):
+    """A leaf that names a column. The box is None in a HasZ."""
+
     kind: _Kind
     column: Column
-    bbox: BoundingBox
+    bbox: Optional[BoundingBox]
 
 
 class Tables(NamedTuple):
@@ -75,6 +78,7 @@ class Tables(NamedTuple):
 
     `nodes` (item type 'I') has four words a node, and the last node is the root: a kind, and
     0 Intersects or 1 Covers: column index, name number, literal number;
+    2 HasZ: column index, name number, and a word that is not read;
     3 And or 4 Or: left node, right node, both below it, and a word that is not read;
     5 LiteralFalse or 6 Unknown: three words that are not read.
     `literals` ('d') are boxes of eight doubles, low and high of x, y, z and m; `literal_flags`
@@ -89,12 +93,21 @@ class Tables(NamedTuple):
     literals: Any
     literal_flags: Any
 
-    def evaluate(self, records: Any, record_flags: Any, names: Any = None) -> Evaluation:
+    def evaluate(
+        self,
+        records: Any,
+        record_flags: Any,
+        record_types: Any,
+        types_known: Any,
+        names: Any = None,
+    ) -> Evaluation:
         """What the filter says of a file: see `evaluate`."""
         lists = [
             *self._views(),
             view(records, "d", "records"),
             view(record_flags, "B", "record_flags"),
+            view(record_types, "I", "record_types"),
+            view(types_known, "B", "types_known"),
         ]
         if names is None:
             return Evaluation(answer(call(library.johikape_evaluate_by_position, *lists)))
@@ -117,7 +130,7 @@ class Tables(NamedTuple):
 
 
 class Filter:
-    """A filter, as a tree: leaves that hold a column against a box, joined by `&` and `|`.
+    """A filter, as a tree: leaves that ask a column for a box or for z, joined by `&` and `|`.
 
     >>> probes, roads = Column(0, 6), Column(1, 7)
     >>> near = BoundingBox((10, 20), (38, 46))
@@ -138,7 +151,7 @@ class Filter:
     _tables: Optional[Tables]
 
     def __init__(self) -> None:
-        raise TypeError("write Filter.intersects, covers, literal_false or unknown")
+        raise TypeError("write Filter.intersects, covers, has_z, literal_false or unknown")
 
     @classmethod
     def _of(cls, *nodes: Union[_Leaf, _Kind]) -> Filter:
@@ -148,10 +161,10 @@ class Filter:
         return made
 
     @classmethod
-    def _leaf(cls, kind: _Kind, column: Column, bbox: BoundingBox) -> Filter:
+    def _leaf(cls, kind: _Kind, column: Column, bbox: Optional[BoundingBox]) -> Filter:
         if not isinstance(column, Column):
             raise TypeError(f"column must be a Column, not {type(column).__name__}")
-        if not isinstance(bbox, BoundingBox):
+        if kind is not _Kind.HAS_Z and not isinstance(bbox, BoundingBox):
             raise TypeError(f"bbox must be a BoundingBox, not {type(bbox).__name__}")
         return cls._of(_Leaf(kind, column, bbox))
 
@@ -164,6 +177,24 @@ class Filter:
     def covers(cls, column: Column, bbox: BoundingBox) -> Filter:
         """May match where the column's box contains the literal, or the column has no box."""
         return cls._leaf(_Kind.COVERS, column, bbox)
+
+    @classmethod
+    def has_z(cls, column: Column) -> Filter:
+        """May match unless the column's z is known and empty, or its types are known and none of
+        them has z: no bit from 8 to 15 or from 24 to 31 is set.
+
+        It wants rows with a box, a type with z, and a z that is missing or runs low to high. Such a
+        row is found in any fold that has its record: its box beside a known type set with its
+        type's bit.
+
+        >>> deep = Filter.has_z(Column(0, 6))
+        >>> points, points_with_z = 1 << 1, 1 << 9
+        >>> deep.evaluate_by_position([GeoStatistics(geometry_types=points)])
+        <Evaluation.CANNOT_MATCH: 0>
+        >>> deep.evaluate_by_position([GeoStatistics(geometry_types=points | points_with_z)])
+        <Evaluation.MAY_MATCH: 1>
+        """
+        return cls._leaf(_Kind.HAS_Z, column, None)
 
     @classmethod
     def literal_false(cls) -> Filter:
@@ -199,8 +230,9 @@ class Filter:
         """Whether a file may have a row that the filter wants.
 
         `records` has what is known of each column of the file, in their order: a GeoStatistics,
-        whose box is read, a BoundingBox, or None. Without a box a column may match anything.
-        `Refusal` 10 where a leaf's column index is past the records.
+        whose box and types are read, a BoundingBox, or None. Without a box a column may match any
+        literal, and without types too it may match anything. `Refusal` 10 where a leaf's column
+        index is past the records.
 
         >>> hot = Filter.intersects(Column(0, 6), BoundingBox((10, 20), (38, 46), m=(55, 120)))
         >>> hot.evaluate_by_position([BoundingBox((12, 19), (40, 45), m=(31.5, 51.5))])
@@ -216,8 +248,8 @@ class Filter:
         """The same, where a leaf's name number picks the record.
 
         `records` maps name numbers to what is known of the columns, or has pairs of both. A name
-        number that is not there counts as a record without a box. `Refusal` 11 where one is there
-        twice.
+        number that is not there counts as a record without a box and without types. `Refusal` 11
+        where one is there twice.
 
         >>> hot = Filter.intersects(Column(0, 6), BoundingBox((10, 20), (38, 46), m=(55, 120)))
         >>> hot.evaluate_by_name({6: BoundingBox((12, 19), (40, 45), m=(31.5, 51.5))})
@@ -258,8 +290,10 @@ class Filter:
         for number, node in enumerate(self._nodes):
             if isinstance(node, _Leaf):
                 nodes.extend((node.kind, node.column.index, node.column.name, len(literal_flags)))
-                literals.extend(ends_of(node.bbox))
-                literal_flags.append(flags_of(node.bbox))
+                # A HasZ has no literal, and its last word is not read.
+                if node.bbox is not None:
+                    literals.extend(ends_of(node.bbox))
+                    literal_flags.append(flags_of(node.bbox))
             elif node in (_Kind.AND, _Kind.OR):
                 right, left = sides.pop(), sides.pop()
                 nodes.extend((node, left, right, 0))
@@ -284,7 +318,8 @@ class Filter:
         sides: List[str] = []
         for node in self._nodes:
             if isinstance(node, _Leaf):
-                sides.append(f"Filter.{node.kind.name.lower()}({node.column!r}, {node.bbox!r})")
+                shown = ", ".join(repr(part) for part in node[1:] if part is not None)
+                sides.append(f"Filter.{node.kind.name.lower()}({shown})")
             elif node in (_Kind.AND, _Kind.OR):
                 right, left = sides.pop(), sides.pop()
                 sides.append(f"({left} {'&' if node is _Kind.AND else '|'} {right})")
@@ -299,12 +334,15 @@ def evaluate(
     literal_flags: Any,
     records: Any,
     record_flags: Any,
+    record_types: Any,
+    types_known: Any,
     names: Any = None,
 ) -> Evaluation:
     """What a filter says of a file, all of it in buffers: see `Tables` for the first three.
 
     `records` (item type 'd') has eight doubles a column, `record_flags` ('B') what is known of
-    each, 0 where it has no box. With `names` ('I'), one for each record, it is by name; else by
+    each, 0 where it has no box. `record_types` ('I') has a type set a column, `types_known` ('B') 1
+    where it is known, else 0. With `names` ('I'), one for each record, it is by name; else by
     position. `Refusal` 4 to 11 where the tables are no filter, or do not fit.
 
     >>> evaluate(
@@ -313,21 +351,28 @@ def evaluate(
     ...     literal_flags=bytes([5]),
     ...     records=array("d", [12, 19, 40, 45, 0, 0, 31.5, 51.5]),
     ...     record_flags=bytes([5]),
+    ...     record_types=array("I", [0]),
+    ...     types_known=bytes([0]),
     ... )
     <Evaluation.CANNOT_MATCH: 0>
     """
-    return Tables(nodes, literals, literal_flags).evaluate(records, record_flags, names)
+    return Tables(nodes, literals, literal_flags).evaluate(
+        records, record_flags, record_types, types_known, names
+    )
 
 
-def _lent(records: Iterable[Record]) -> Tuple[Any, Any]:
-    """The boxes of records, as the library reads them."""
-    ends, flags = array("d"), array("B")
+def _lent(records: Iterable[Record]) -> Tuple[Any, Any, Any, Any]:
+    """The boxes and types of records, as the library reads them."""
+    ends, flags, types, types_known = array("d"), array("B"), array("I"), array("B")
     for record in records:
         bbox = record.bbox if isinstance(record, GeoStatistics) else record
+        known = record.geometry_types if isinstance(record, GeoStatistics) else None
         if not (bbox is None or isinstance(bbox, BoundingBox)):
             raise TypeError(
                 f"a record must be GeoStatistics, BoundingBox or None, not {type(bbox).__name__}"
             )
         ends.extend(ends_of(bbox))
         flags.append(flags_of(bbox))
-    return ends, flags
+        types.append(known or 0)
+        types_known.append(known is not None)
+    return ends, flags, types, types_known

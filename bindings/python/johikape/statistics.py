@@ -30,8 +30,9 @@ DOUBLES = ENDS + len(EXTENTS)
 class GeoStatistics(Value):
     """The record of a column of a file. What is None is not known.
 
-    `geometry_types` is a set of 32 bits, the totals are integers of 64 bits with a sign, and the
-    two totals of envelopes are floats.
+    `geometry_types` is a set of 32 bits, a type's being its WKB number, and 8 more with z, 16 more
+    with m, 24 more with both. The totals are integers of 64 bits with a sign, and the two totals of
+    envelopes are floats.
 
     >>> GeoStatistics(bbox=BoundingBox((0, 1), (0, 1)), total_points=240).total_points
     240

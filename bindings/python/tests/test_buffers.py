@@ -87,13 +87,10 @@ class Taken(unittest.TestCase):
 
     def test_none_at_all(self):
         self.assertEqual(Records(**lists(0)).fold(), GeoStatistics())
+        none = array("d"), b"", array("d"), b"", array("I"), b""
+        self.assertEqual(evaluate(array("I", [6, 0, 0, 0]), *none), Evaluation.MAY_MATCH)
         self.assertEqual(
-            evaluate(array("I", [6, 0, 0, 0]), array("d"), b"", array("d"), b""),
-            Evaluation.MAY_MATCH,
-        )
-        self.assertEqual(
-            evaluate(array("I", [5, 0, 0, 0]), array("d"), b"", array("d"), b"", array("I")),
-            Evaluation.CANNOT_MATCH,
+            evaluate(array("I", [5, 0, 0, 0]), *none, array("I")), Evaluation.CANNOT_MATCH
         )
 
     def test_a_hundred_thousand(self):
@@ -115,19 +112,19 @@ class Taken(unittest.TestCase):
 
     def test_nothing_stays_lent_after_a_call(self):
         nodes, box, flag = array("I", [0, 0, 0, 0]), array("d", [0] * 8), bytearray(b"\1")
-        owners = (nodes, box, flag)
+        types, known = array("I", [0]), bytearray(b"\0")
+        owners = (nodes, box, flag, types, known)
         before = [sys.getrefcount(owner) for owner in owners]
         for _ in range(100):
-            evaluate(nodes, box, flag, box, flag)
+            evaluate(nodes, box, flag, box, flag, types, known)
             with self.assertRaises(Refusal):
-                evaluate(nodes, box, flag, box, b"")
+                evaluate(nodes, box, flag, box, flag, types, b"")
             with self.assertRaises(TypeError):
-                evaluate(nodes, box, flag, box, 5)
+                evaluate(nodes, box, flag, box, flag, types, 5)
         self.assertEqual([sys.getrefcount(owner) for owner in owners], before)
         # They may grow again.
-        nodes.append(0)
-        box.append(0)
-        flag.append(0)
+        for owner in owners:
+            owner.append(0)
 
 
 class TurnedAway(unittest.TestCase):
@@ -161,7 +158,8 @@ class TurnedAway(unittest.TestCase):
         with self.assertRaisesRegex(ValueError, "doubles must be contiguous"):
             Records(**{**lists(1), "doubles": memoryview(array("d", [0] * 20))[::2]})
         with self.assertRaisesRegex(ValueError, "nodes must be contiguous"):
-            evaluate(memoryview(array("I", [0] * 8))[::2], array("d"), b"", array("d"), b"")
+            nodes = memoryview(array("I", [0] * 8))[::2]
+            evaluate(nodes, array("d"), b"", array("d"), b"", array("I"), b"")
 
     def test_not_aligned(self):
         shifted = memoryview(bytearray(84))[4:].cast("d")
@@ -175,6 +173,8 @@ class TurnedAway(unittest.TestCase):
             "literal_flags": b"\1",
             "records": array("d", [0] * 8),
             "record_flags": b"\1",
+            "record_types": array("I", [0]),
+            "types_known": b"\1",
             "names": array("I", [0]),
         }
         self.assertIs(evaluate(**good), Evaluation.MAY_MATCH)

@@ -1,9 +1,11 @@
 """Filters, as trees and as tables."""
 
 import pickle
+import sys
 import unittest
 from array import array
 from functools import reduce
+from math import inf, nan
 
 import johikape
 from johikape import (
@@ -15,6 +17,7 @@ from johikape import (
     Interval,
     Refusal,
     Tables,
+    fold,
 )
 
 MAY, CANNOT = Evaluation.MAY_MATCH, Evaluation.CANNOT_MATCH
@@ -22,6 +25,10 @@ MAY, CANNOT = Evaluation.MAY_MATCH, Evaluation.CANNOT_MATCH
 FIRST, SECOND = Column(0, 40), Column(1, 41)
 LOW = BoundingBox((0, 10), (0, 10))
 HIGH = BoundingBox((20, 30), (20, 30))
+
+DEEP = Filter.has_z(FIRST)
+POINT, POINT_Z = 1 << 1, 1 << 9
+MAX = sys.float_info.max
 
 
 class Leaves(unittest.TestCase):
@@ -34,6 +41,45 @@ class Leaves(unittest.TestCase):
         inside = BoundingBox((1, 2), (1, 2))
         self.assertIs(Filter.covers(FIRST, inside).evaluate_by_position([LOW]), MAY)
         self.assertIs(Filter.covers(FIRST, LOW).evaluate_by_position([inside]), CANNOT)
+
+    def test_has_z_asks_for_a_type_with_z(self):
+        without, with_z = (0, 7, 16, 23), (8, 15, 24, 31)
+        cases = [(None, MAY), (0, CANNOT), (0x00FF00FF, CANNOT), (POINT | POINT_Z, MAY)]
+        cases += [(1 << bit, CANNOT) for bit in without] + [(1 << bit, MAY) for bit in with_z]
+        for types, answer in cases:
+            for box in (None, LOW, BoundingBox((0, 1), (0, 1), z=(0.2, 1.4))):
+                with self.subTest(types=types, box=box):
+                    record = GeoStatistics(bbox=box, geometry_types=types)
+                    self.assertIs(DEEP.evaluate_by_position([record]), answer)
+                    self.assertIs(DEEP.evaluate_by_name({40: record}), answer)
+
+    def test_has_z_asks_for_a_z_that_is_not_empty(self):
+        cases = [((inf, -inf), CANNOT), ((MAX, -MAX), CANNOT)]
+        cases += [(z, MAY) for z in [None, (0.2, 1.4), (1.4, 0.2), (inf, inf), (nan, nan)]]
+        for z, answer in cases:
+            with self.subTest(z=z):
+                box = BoundingBox((0, 1), (0, 1), z=z)
+                deep = GeoStatistics(bbox=box, geometry_types=POINT_Z)
+                flat = GeoStatistics(bbox=box, geometry_types=POINT)
+                self.assertIs(DEEP.evaluate_by_position([box]), answer)
+                self.assertIs(DEEP.evaluate_by_position([deep]), answer)
+                self.assertIs(DEEP.evaluate_by_position([flat]), CANNOT)
+
+    def test_has_z_reads_only_what_is_known(self):
+        no_z, types = array("d", [0, 1, 0, 1, inf, -inf, 0, 0]), array("I", [POINT])
+        cases = [(0, 0, MAY), (1, 0, MAY), (5, 0, MAY), (3, 0, CANNOT), (0, 1, CANNOT)]
+        for flags, known, answer in cases:
+            with self.subTest(flags=flags, known=known):
+                lent = no_z, bytes([flags]), types, bytes([known])
+                self.assertIs(DEEP.compile().evaluate(*lent), answer)
+                self.assertIs(DEEP.compile().evaluate(*lent, array("I", [40])), answer)
+
+    def test_has_z_finds_its_row_in_a_fold(self):
+        row = GeoStatistics(bbox=BoundingBox((0, 1), (0, 1), z=(0.2, 1.4)), geometry_types=POINT_Z)
+        no_z = BoundingBox((0, 1), (0, 1), z=Interval.empty())
+        for other in (GeoStatistics(), GeoStatistics(bbox=no_z, geometry_types=POINT)):
+            self.assertIs(DEEP.evaluate_by_position([fold([row, other])]), MAY)
+            self.assertIs(DEEP.evaluate_by_position([fold([other, row])]), MAY)
 
     def test_constants(self):
         self.assertIs(Filter.literal_false().evaluate_by_position([]), CANNOT)
@@ -67,6 +113,12 @@ class Trees(unittest.TestCase):
         self.assertIs(wanted.evaluate_by_position([HIGH, LOW]), CANNOT)
         self.assertIs(wanted.evaluate_by_name({41: HIGH, 40: LOW}), MAY)
         self.assertIs(wanted.evaluate_by_name([(41, LOW), (40, HIGH)]), CANNOT)
+        # A HasZ stands between two literals and has none.
+        wanted = Filter.intersects(FIRST, LOW) & DEEP & Filter.intersects(SECOND, HIGH)
+        flat = GeoStatistics(bbox=LOW, geometry_types=POINT)
+        self.assertIs(wanted.evaluate_by_position([LOW, HIGH]), MAY)
+        self.assertIs(wanted.evaluate_by_position([LOW, LOW]), CANNOT)
+        self.assertIs(wanted.evaluate_by_position([flat, HIGH]), CANNOT)
 
     def test_the_tree_as_written(self):
         # (a & b) | c and a & (b | c) differ where a and b cannot match and c may.
@@ -79,6 +131,10 @@ class Trees(unittest.TestCase):
         self.assertIs(wanted.evaluate_by_name({}), MAY)
         self.assertIs(wanted.evaluate_by_name({41: HIGH}), MAY)
         self.assertIs(wanted.evaluate_by_name({40: HIGH}), CANNOT)
+        flat = GeoStatistics(geometry_types=POINT)
+        self.assertIs(DEEP.evaluate_by_name({}), MAY)
+        self.assertIs(DEEP.evaluate_by_name({41: flat}), MAY)
+        self.assertIs(DEEP.evaluate_by_name({40: flat}), CANNOT)
 
     def test_filter_box(self):
         wanted = Filter.intersects(FIRST, BoundingBox((0, 10), (0, 10), m=(55, 120)))
@@ -89,6 +145,9 @@ class Trees(unittest.TestCase):
             (wanted | Filter.covers(FIRST, HIGH)).filter_bbox(40), BoundingBox((0, 30), (0, 30))
         )
         self.assertTrue(Filter.literal_false().filter_bbox(40).is_empty())
+        self.assertEqual(DEEP.filter_bbox(40), everywhere)
+        self.assertEqual((DEEP & Filter.covers(FIRST, HIGH)).filter_bbox(40), HIGH)
+        self.assertEqual((DEEP | Filter.covers(FIRST, HIGH)).filter_bbox(40), everywhere)
 
     def test_may_match_with_an_empty_filter_box(self):
         wanted = Filter.intersects(FIRST, BoundingBox((1, 2), (0, 1))) & Filter.intersects(
@@ -140,6 +199,9 @@ class Refusals(unittest.TestCase):
         wanted = Filter.intersects(SECOND, LOW)
         self.refused(10, wanted.evaluate_by_position, [LOW])
         self.refused(10, Filter.covers(Column(2**32 - 1, 0), LOW).evaluate_by_position, [LOW])
+        deep = Filter.has_z(SECOND)
+        self.refused(10, deep.evaluate_by_position, [LOW])
+        self.refused(10, (Filter.unknown() | deep).evaluate_by_position, [LOW])
 
     def test_name_twice(self):
         self.refused(11, Filter.unknown().evaluate_by_name, [(40, LOW), (41, LOW), (40, LOW)])
@@ -151,7 +213,6 @@ class Refusals(unittest.TestCase):
             (4, [6, 0, 0], literal, flag),
             (4, [6, 0, 0, 0] * 1025, literal, flag),
             (5, [7, 0, 0, 0], literal, flag),
-            (6, [2, 0, 0, 0], literal, flag),
             (7, [3, 0, 0, 0], literal, flag),
             (7, [6, 0, 0, 0, 3, 0, 1, 0], literal, flag),
             (7, [6, 0, 0, 0, 3, 0, 0, 0], literal, flag),
@@ -167,28 +228,41 @@ class Refusals(unittest.TestCase):
         for number, nodes, literals, flags in cases:
             with self.subTest(number=number, nodes=nodes[:8]):
                 tables = Tables(array("I", nodes), array("d", literals), array("B", flags))
-                self.refused(number, tables.evaluate, array("d", literal), array("B", flag))
-                self.refused(
-                    number, tables.evaluate, array("d", literal), array("B", flag), array("I", [40])
-                )
+                record = [array("d", literal), array("B", flag), array("I", [0]), b"\0"]
+                self.refused(number, tables.evaluate, *record)
+                self.refused(number, tables.evaluate, *record, array("I", [40]))
                 self.refused(number, tables.filter_bbox, 40)
 
     def test_records_that_do_not_fit(self):
         tables = Filter.unknown().compile()
-        box = array("d", [0, 1, 0, 1, 0, 0, 0, 0])
-        self.refused(8, tables.evaluate, box, b"")
-        self.refused(8, tables.evaluate, box[:7], b"\1")
-        self.refused(8, tables.evaluate, box, b"\2")
-        self.refused(8, tables.evaluate, box, b"\1", array("I"))
-        self.refused(8, tables.evaluate, box, b"\1", array("I", [1, 2]))
-        # A record without a box has the flag 0, and its doubles are there still.
-        self.assertIs(tables.evaluate(box, b"\0"), MAY)
+        box, types = array("d", [0, 1, 0, 1, 0, 0, 0, 0]), array("I", [POINT])
+        cases = [
+            (box, b"", types, b"\1"),
+            (box[:7], b"\1", types, b"\1"),
+            (box, b"\2", types, b"\1"),
+            (box, b"\1", types[:0], b"\1"),
+            (box, b"\1", types * 2, b"\1"),
+            (box, b"\1", types, b""),
+            (box, b"\1", types, b"\1\1"),
+            (box, b"\1", types, b"\2"),
+            (box, b"\1", types, b"\xff"),
+        ]
+        for case in cases:
+            with self.subTest(case=case):
+                self.refused(8, tables.evaluate, *case)
+                self.refused(8, tables.evaluate, *case, array("I", [40]))
+        self.refused(8, tables.evaluate, box, b"\1", types, b"\1", array("I"))
+        self.refused(8, tables.evaluate, box, b"\1", types, b"\1", array("I", [1, 2]))
+        # A record without a box has the flag 0, and its doubles are there still; so are types that
+        # are not known.
+        self.assertIs(tables.evaluate(box, b"\0", types, b"\0"), MAY)
 
     def test_every_number_has_its_sentence(self):
-        for number in (1, 3, 4, 5, 6, 7, 8, 9, 10, 11):
+        for number in (1, 3, 4, 5, 7, 8, 9, 10, 11):
             self.assertRegex(str(Refusal(number)), rf"^refused by {number}: [a-z]")
             self.assertNotIn("does not know", Refusal(number).sentence)
-        self.assertIn("does not know", str(Refusal(99)))
+        for number in (2, 6, 99):
+            self.assertIn("does not know", str(Refusal(number)))
 
 
 class Arguments(unittest.TestCase):
@@ -216,6 +290,10 @@ class Arguments(unittest.TestCase):
             Filter.intersects(0, LOW)
         with self.assertRaisesRegex(TypeError, "bbox must be a BoundingBox, not tuple"):
             Filter.covers(FIRST, (0, 1, 0, 1))
+        with self.assertRaisesRegex(TypeError, "bbox must be a BoundingBox, not NoneType"):
+            Filter.covers(FIRST, None)
+        with self.assertRaisesRegex(TypeError, "column must be a Column, not int"):
+            Filter.has_z(0)
         with self.assertRaises(TypeError):
             Filter()
 

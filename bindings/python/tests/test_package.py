@@ -103,6 +103,7 @@ class Values(unittest.TestCase):
         Column(0, 6),
         GeoStatistics(bbox=box, total_points=240),
         Filter.intersects(Column(0, 6), box) & (Filter.unknown() | Filter.literal_false()),
+        Filter.has_z(Column(0, 6)),
     ]
 
     def test_shown_as_written(self):

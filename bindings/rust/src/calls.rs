@@ -1,7 +1,7 @@
 //! Calls of the library over this crate's values.
 
 use crate::filter::Evaluation;
-use crate::layout::{Boxes, Ends, Record, Records};
+use crate::layout::{Boxes, Columns, Ends, Record, Records};
 use crate::raw;
 use crate::refusal::Refusal;
 
@@ -101,29 +101,33 @@ fn evaluation(answer: u32) -> Result<Evaluation, Refusal> {
 pub(crate) fn evaluate_by_position(
     nodes: &[[u32; 4]],
     literals: &Boxes,
-    records: &Boxes,
+    columns: &Columns,
 ) -> Result<Evaluation, Refusal> {
     evaluation(raw::evaluate_by_position(
         nodes.as_flattened(),
         literals.doubles.as_flattened(),
         &literals.flags,
-        records.doubles.as_flattened(),
-        &records.flags,
+        columns.boxes.doubles.as_flattened(),
+        &columns.boxes.flags,
+        &columns.types,
+        &columns.types_known,
     ))
 }
 
 pub(crate) fn evaluate_by_name(
     nodes: &[[u32; 4]],
     literals: &Boxes,
-    records: &Boxes,
+    columns: &Columns,
     names: &[u32],
 ) -> Result<Evaluation, Refusal> {
     evaluation(raw::evaluate_by_name(
         nodes.as_flattened(),
         literals.doubles.as_flattened(),
         &literals.flags,
-        records.doubles.as_flattened(),
-        &records.flags,
+        columns.boxes.doubles.as_flattened(),
+        &columns.boxes.flags,
+        &columns.types,
+        &columns.types_known,
         names,
     ))
 }

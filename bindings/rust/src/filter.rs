@@ -2,13 +2,14 @@
 
 use crate::bounding_box::BoundingBox;
 use crate::calls;
-use crate::layout::{Boxes, Ends};
+use crate::layout::{Boxes, Columns, Ends};
 use crate::refusal::Refusal;
 use crate::statistics::GeoStatistics;
 
 // The kinds of nodes.
 const INTERSECTS: u32 = 0;
 const COVERS: u32 = 1;
+const HAS_Z: u32 = 2;
 const AND: u32 = 3;
 const OR: u32 = 4;
 const LITERAL_FALSE: u32 = 5;
@@ -55,10 +56,11 @@ pub enum Evaluation {
     CannotMatch,
 }
 
-/// What is wanted of a file, as far as boxes can tell.
+/// What is wanted of a file, as far as boxes and types can tell.
 ///
-/// The records of a file are the [`GeoStatistics`] of its columns, of which the boxes alone are
-/// read. To hold a filter against a bare box, make a record of it by `GeoStatistics::from(bbox)`.
+/// The records of a file are the [`GeoStatistics`] of its columns, of which the boxes are read, and
+/// by a [`has_z`](Filter::has_z) the types, and nothing else. To hold a filter against a bare box,
+/// make a record of it by `GeoStatistics::from(bbox)`.
 ///
 /// ```
 /// use johikape::{BoundingBox, Column, Evaluation, Filter, GeoStatistics};
@@ -84,7 +86,10 @@ pub enum Evaluation {
 /// Let each record be the [`fold`](crate::fold) of records that have all rows of its column. Then a
 /// file that has a wanted row may match: it is never skipped. Of a column under a
 /// [`covers`](Filter::covers) this asks moreover that no record's x wraps around or has a NaN end,
-/// and that the literal's x runs low to high; else a file with a covering row may be skipped.
+/// and that the literal's x runs low to high; else a file with a covering row may be skipped. Of a
+/// column under a [`has_z`](Filter::has_z) it asks that the record of a row that this leaf wants is
+/// its box beside a known type set with its type's bit; else a file with such a row may be skipped,
+/// for the types that other records know.
 ///
 /// # Size
 ///
@@ -102,6 +107,7 @@ pub struct Filter {
 enum Node {
     Intersects(Column, BoundingBox),
     Covers(Column, BoundingBox),
+    HasZ(Column),
     /// A join, with how many nodes its right side has.
     And(usize),
     Or(usize),
@@ -132,12 +138,30 @@ impl Filter {
         Filter::leaf(Node::Covers(column, literal))
     }
 
+    /// Wants rows that have a box in the column, a type with z, and a z that is missing or runs low
+    /// to high. May match unless the record's z is known and empty, or its `geometry_types` are
+    /// known and none of them has z: no bit from 8 to 15 or from 24 to 31 is set.
+    ///
+    /// ```
+    /// # use johikape::{Column, Evaluation, Filter, GeoStatistics};
+    /// let filter = Filter::has_z(Column::at(0));
+    /// let (points, points_with_z) = (1 << 1, 1 << 9);
+    /// let file = |types| GeoStatistics { geometry_types: Some(types), ..Default::default() };
+    /// let (flat, mixed) = (file(points), file(points | points_with_z));
+    /// assert_eq!(filter.evaluate_by_position(&[flat])?, Evaluation::CannotMatch);
+    /// assert_eq!(filter.evaluate_by_position(&[mixed])?, Evaluation::MayMatch);
+    /// # Ok::<(), johikape::Refusal>(())
+    /// ```
+    pub fn has_z(column: Column) -> Filter {
+        Filter::leaf(Node::HasZ(column))
+    }
+
     /// Wants nothing: never matches.
     pub fn literal_false() -> Filter {
         Filter::leaf(Node::LiteralFalse)
     }
 
-    /// Wants what boxes cannot tell: may always match.
+    /// Wants what boxes and types cannot tell: may always match.
     pub fn unknown() -> Filter {
         Filter::leaf(Node::Unknown)
     }
@@ -240,6 +264,7 @@ impl CompiledFilter {
             Node::Covers(column, literal) => {
                 [COVERS, column.index, column.name, self.lend(&literal)]
             }
+            Node::HasZ(column) => [HAS_Z, column.index, column.name, 0],
             Node::And(right_size) => {
                 let (left, right) = sides(right_size);
                 [AND, left, right, 0]
@@ -268,11 +293,11 @@ impl CompiledFilter {
     /// [`Refusal::Words`] where the filter has more than 1,024 nodes, else [`Refusal::NoColumn`]
     /// where an index has no record.
     pub fn evaluate_by_position(&self, records: &[GeoStatistics]) -> Result<Evaluation, Refusal> {
-        calls::evaluate_by_position(&self.nodes, &self.literals, &Boxes::of(records.iter()))
+        calls::evaluate_by_position(&self.nodes, &self.literals, &Columns::of(records.iter()))
     }
 
     /// Whether a file may have a row that is wanted. Each leaf looks at the record beside its name
-    /// number; a number that is not there counts as a record without a box.
+    /// number; a number that is not there counts as a record without a box and without types.
     ///
     /// Each name is compared with all others, so the time grows with the square of the columns.
     ///
@@ -297,16 +322,16 @@ impl CompiledFilter {
         records: &[(u32, GeoStatistics)],
     ) -> Result<Evaluation, Refusal> {
         let names: Vec<u32> = records.iter().map(|(name, _)| *name).collect();
-        let boxes = Boxes::of(records.iter().map(|(_, record)| record));
-        calls::evaluate_by_name(&self.nodes, &self.literals, &boxes, &names)
+        let columns = Columns::of(records.iter().map(|(_, record)| record));
+        calls::evaluate_by_name(&self.nodes, &self.literals, &columns, &names)
     }
 
     /// The filter's box for the column of a name number: what an index scan looks up.
     ///
-    /// A leaf of that column gives its literal, any other leaf and Unknown all x and y, and
-    /// LiteralFalse nothing. And gives what the boxes of its sides both hold, or all x and y where
-    /// that of x has two parts. Or gives a box around both. z and m stay known only where both
-    /// sides know them.
+    /// An Intersects or Covers of that column gives its literal, any other leaf and Unknown all x
+    /// and y, and LiteralFalse nothing. And gives what the boxes of its sides both hold, or all x
+    /// and y where that of x has two parts. Or gives a box around both. z and m stay known only
+    /// where both sides know them.
     ///
     /// It contains each wanted row that is a point without NaN, where each leaf has the name number
     /// of its column, no two columns share one, and all literals run low to high. It is for points

@@ -68,21 +68,37 @@ pub(crate) struct Boxes {
 }
 
 impl Boxes {
-    /// The boxes of records.
-    pub(crate) fn of<'a>(records: impl ExactSizeIterator<Item = &'a GeoStatistics>) -> Boxes {
-        let mut boxes = Boxes {
-            doubles: Vec::with_capacity(records.len()),
-            flags: Vec::with_capacity(records.len()),
-        };
-        for record in records {
-            boxes.push(record.bbox.as_ref().map_or(Ends::NONE, Ends::of));
-        }
-        boxes
-    }
-
     pub(crate) fn push(&mut self, ends: Ends) {
         self.doubles.push(ends.doubles);
         self.flags.push(ends.flags);
+    }
+}
+
+/// What a filter reads of the records of columns: boxes and types, and 1 where the types are known.
+pub(crate) struct Columns {
+    pub(crate) boxes: Boxes,
+    pub(crate) types: Vec<u32>,
+    pub(crate) types_known: Vec<u8>,
+}
+
+impl Columns {
+    pub(crate) fn of<'a>(records: impl ExactSizeIterator<Item = &'a GeoStatistics>) -> Columns {
+        let mut columns = Columns {
+            boxes: Boxes {
+                doubles: Vec::with_capacity(records.len()),
+                flags: Vec::with_capacity(records.len()),
+            },
+            types: Vec::with_capacity(records.len()),
+            types_known: Vec::with_capacity(records.len()),
+        };
+        for record in records {
+            let ends = record.bbox.as_ref().map_or(Ends::NONE, Ends::of);
+            let types = record.geometry_types;
+            columns.boxes.push(ends);
+            columns.types.push(types.unwrap_or_default());
+            columns.types_known.push(types.is_some().into());
+        }
+        columns
     }
 }
 

@@ -39,7 +39,8 @@
 //!   and everything at or below the high: `(170, -170)` is the strip at the antimeridian.
 //! * An interval is **empty** where its high less its low is minus infinity, as in `(inf, -inf)`.
 //! * A z or an m may be **missing**. That rules nothing out; missing is never empty.
-//! * A record **without a box** may match anything.
+//! * A record **without a box** may match any literal, and one without types too may match
+//!   anything.
 //! * A call that cannot be answered is refused by a number: [`Refusal`] has them all. A refused
 //!   call has changed nothing.
 

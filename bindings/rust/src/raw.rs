@@ -115,6 +115,10 @@ unsafe extern "C" {
         records_count: usize,
         record_flags: *const u8,
         record_flags_count: usize,
+        record_types: *const u32,
+        record_types_count: usize,
+        types_known: *const u8,
+        types_known_count: usize,
     ) -> u32;
 
     fn johikape_evaluate_by_name(
@@ -128,6 +132,10 @@ unsafe extern "C" {
         records_count: usize,
         record_flags: *const u8,
         record_flags_count: usize,
+        record_types: *const u32,
+        record_types_count: usize,
+        types_known: *const u8,
+        types_known_count: usize,
         names: *const u32,
         names_count: usize,
     ) -> u32;
@@ -193,6 +201,8 @@ pub fn evaluate_by_position(
     literal_flags: &[u8],
     records: &[f64],
     record_flags: &[u8],
+    record_types: &[u32],
+    types_known: &[u8],
 ) -> u32 {
     unsafe {
         johikape_evaluate_by_position(
@@ -206,18 +216,25 @@ pub fn evaluate_by_position(
             records.len(),
             record_flags.as_ptr(),
             record_flags.len(),
+            record_types.as_ptr(),
+            record_types.len(),
+            types_known.as_ptr(),
+            types_known.len(),
         )
     }
 }
 
 /// `johikape_evaluate_by_name`.
 #[inline]
+#[allow(clippy::too_many_arguments)]
 pub fn evaluate_by_name(
     nodes: &[u32],
     literals: &[f64],
     literal_flags: &[u8],
     records: &[f64],
     record_flags: &[u8],
+    record_types: &[u32],
+    types_known: &[u8],
     names: &[u32],
 ) -> u32 {
     unsafe {
@@ -232,6 +249,10 @@ pub fn evaluate_by_name(
             records.len(),
             record_flags.as_ptr(),
             record_flags.len(),
+            record_types.as_ptr(),
+            record_types.len(),
+            types_known.as_ptr(),
+            types_known.len(),
             names.as_ptr(),
             names.len(),
         )

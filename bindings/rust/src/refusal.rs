@@ -32,11 +32,9 @@ pub enum Refusal {
     Words = 4,
     /// 5: a node of a kind that does not exist. A [`Filter`](crate::Filter) has none.
     UnknownKind = 5,
-    /// 6: a node of the kind HasZ. A [`Filter`](crate::Filter) has none.
-    HasZ = 6,
     /// 7: nodes that are not one tree. Those of a [`Filter`](crate::Filter) always are.
     BadTree = 7,
-    /// 8: bad flags, or lists whose lengths do not fit. This crate makes none.
+    /// 8: bad flags or known bytes, or lists whose lengths do not fit. This crate makes none.
     Boxes = 8,
     /// 9: a literal that is not lent. A [`Filter`](crate::Filter) lends all of its own.
     NoLiteral = 9,
@@ -66,11 +64,10 @@ impl Refusal {
             Refusal::Overflow => "a total leaves the range of an i64",
             Refusal::Words => "node words are none, not in fours, or over 4,096 (1,024 nodes)",
             Refusal::UnknownKind => "a node has a kind over 6",
-            Refusal::HasZ => "a node is of kind 2, HasZ",
             Refusal::BadTree => {
                 "a child is not below its parent, or a node but the root is not used once"
             }
-            Refusal::Boxes => "flags are bad, or lists have lengths that do not fit",
+            Refusal::Boxes => "flags or known bytes are bad, or lists have lengths that do not fit",
             Refusal::NoLiteral => "a literal number is not lent",
             Refusal::NoColumn => "there is no record at a column index",
             Refusal::NameTwice => "a name number stands twice among the records",
@@ -95,7 +92,6 @@ impl Refusal {
             3 => Refusal::Overflow,
             4 => Refusal::Words,
             5 => Refusal::UnknownKind,
-            6 => Refusal::HasZ,
             7 => Refusal::BadTree,
             8 => Refusal::Boxes,
             9 => Refusal::NoLiteral,
@@ -124,7 +120,7 @@ mod tests {
     #[test]
     fn each_number_is_that_of_its_refusal() {
         assert_eq!(Refusal::check(0), Ok(()));
-        for number in [1, 3, 4, 5, 6, 7, 8, 9, 10, 11, 12, 13, 14] {
+        for number in [1, 3, 4, 5, 7, 8, 9, 10, 11, 12, 13, 14] {
             let refusal = Refusal::check(number).unwrap_err();
             assert_eq!(refusal.number(), number);
             let words = refusal.to_string();

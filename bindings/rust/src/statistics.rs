@@ -30,7 +30,7 @@ use crate::refusal::Refusal;
 /// ```
 #[derive(Clone, Copy, Debug, Default, PartialEq)]
 pub struct GeoStatistics {
-    /// A box around all geometries. A record without one may match anything.
+    /// A box around all geometries. A record without one may match any literal.
     pub bbox: Option<BoundingBox>,
     /// The set of geometry types, a bit each. The bit is the type's WKB number (1 point, 2 line
     /// string, 3 polygon, 4 to 6 their multiples, 7 collection), and 8 more with z, 16 more with

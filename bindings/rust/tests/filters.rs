@@ -3,10 +3,16 @@
 use johikape::Evaluation::{CannotMatch, MayMatch};
 use johikape::{
     BoundingBox, Column, CompiledFilter, Evaluation, Filter, GeoStatistics, Interval, Refusal,
-    WraparoundInterval,
+    WraparoundInterval, fold,
 };
 
 const NAN: f64 = f64::NAN;
+const INF: f64 = f64::INFINITY;
+const MAX: f64 = f64::MAX;
+
+/// Type sets: points, and points with z.
+const POINT: u32 = 1 << 1;
+const POINT_Z: u32 = 1 << 9;
 
 /// A box with this x, and y from 0 to 1.
 fn strip(lo: f64, hi: f64) -> BoundingBox {
@@ -16,6 +22,18 @@ fn strip(lo: f64, hi: f64) -> BoundingBox {
 /// A record that knows its box alone.
 fn record(lo: f64, hi: f64) -> GeoStatistics {
     strip(lo, hi).into()
+}
+
+/// A record of probes that knows a box, its z where there is one, and these types.
+fn probes(z: Option<(f64, f64)>, geometry_types: Option<u32>) -> GeoStatistics {
+    let bbox = BoundingBox {
+        z: z.map(Interval::from),
+        ..strip(0.0, 1.0)
+    };
+    GeoStatistics {
+        geometry_types,
+        ..bbox.into()
+    }
 }
 
 /// All x and y.
@@ -29,6 +47,12 @@ fn ask(filter: &Filter, columns: &[GeoStatistics]) -> Result<Evaluation, Refusal
 
 fn ask_by_name(filter: &Filter, columns: &[(u32, GeoStatistics)]) -> Result<Evaluation, Refusal> {
     filter.evaluate_by_name(columns)
+}
+
+/// What a has_z says of a record, by position and by name.
+fn ask_for_z(record: GeoStatistics) -> [Result<Evaluation, Refusal>; 2] {
+    let deep = Filter::has_z(Column::named(0, 41));
+    [ask(&deep, &[record]), ask_by_name(&deep, &[(41, record)])]
 }
 
 /// Wants x 1 to 2 in the first column.
@@ -58,6 +82,84 @@ fn covers_asks_whether_the_column_contains_the_literal() {
     let filter = Filter::covers(Column::at(0), strip(1.0, 2.0));
     assert_eq!(ask(&filter, &[record(0.0, 10.0)]), Ok(MayMatch));
     assert_eq!(ask(&filter, &[record(1.5, 10.0)]), Ok(CannotMatch));
+}
+
+#[test]
+fn has_z_asks_whether_a_type_has_z() {
+    let cases = [
+        (None, MayMatch),
+        (Some(0), CannotMatch),
+        (Some(1 << 7), CannotMatch),
+        (Some(1 << 8), MayMatch),
+        (Some(1 << 15), MayMatch),
+        (Some(1 << 16), CannotMatch),
+        (Some(1 << 23), CannotMatch),
+        (Some(1 << 24), MayMatch),
+        (Some(1 << 31), MayMatch),
+        (Some(0x00ff_00ff), CannotMatch),
+        (Some(POINT | POINT_Z), MayMatch),
+    ];
+    for (types, expected) in cases {
+        let no_box = GeoStatistics {
+            geometry_types: types,
+            ..GeoStatistics::UNSPECIFIED
+        };
+        for record in [no_box, probes(None, types), probes(Some((0.2, 1.4)), types)] {
+            assert_eq!(ask_for_z(record), [Ok(expected); 2], "{record:?}");
+        }
+    }
+}
+
+#[test]
+fn has_z_asks_whether_z_is_known_and_empty() {
+    let cases = [
+        (None, MayMatch),
+        (Some((0.2, 1.4)), MayMatch),
+        (Some((1.4, 0.2)), MayMatch),
+        (Some((INF, -INF)), CannotMatch),
+        (Some((MAX, -MAX)), CannotMatch),
+        (Some((-INF, INF)), MayMatch),
+        (Some((INF, INF)), MayMatch),
+        (Some((NAN, NAN)), MayMatch),
+        (Some((INF, NAN)), MayMatch),
+    ];
+    for (z, expected) in cases {
+        for (types, expected) in [
+            (None, expected),
+            (Some(POINT_Z), expected),
+            (Some(POINT), CannotMatch),
+        ] {
+            let record = probes(z, types);
+            assert_eq!(ask_for_z(record), [Ok(expected); 2], "{record:?}");
+        }
+    }
+}
+
+#[test]
+fn has_z_still_finds_its_row_in_a_fold() {
+    let rows = [
+        probes(Some((0.2, 1.4)), Some(POINT_Z)),
+        probes(None, Some(POINT_Z)),
+    ];
+    let others = [
+        probes(None, Some(POINT)),
+        probes(Some((INF, -INF)), Some(POINT)),
+        probes(Some((MAX, -MAX)), Some(0)),
+        probes(Some((NAN, NAN)), None),
+        GeoStatistics::UNSPECIFIED,
+        GeoStatistics::empty(),
+    ];
+    for row in rows {
+        for other in others {
+            for records in [[row, other], [other, row]] {
+                let folded = fold(&records).unwrap();
+                assert_eq!(ask_for_z(folded), [Ok(MayMatch); 2], "{records:?}");
+            }
+        }
+    }
+    // Without its type it is lost beside a record that knows others.
+    let lost = fold(&[probes(None, None), probes(None, Some(POINT))]).unwrap();
+    assert_eq!(ask_for_z(lost), [Ok(CannotMatch); 2]);
 }
 
 #[test]
@@ -170,9 +272,15 @@ fn by_position_an_index_without_a_record_is_refused() {
         ask(&at(u32::MAX), &[record(0.0, 1.0)]),
         Err(Refusal::NoColumn)
     );
+    let deep = Filter::has_z(Column::at(1));
+    assert_eq!(ask(&deep, &[record(0.0, 1.0)]), Err(Refusal::NoColumn));
     // Also where the other side has settled the answer.
-    let settled = Filter::literal_false().and(at(1));
-    assert_eq!(ask(&settled, &[record(0.0, 1.0)]), Err(Refusal::NoColumn));
+    for settled in [
+        Filter::literal_false().and(at(1)),
+        Filter::unknown().or(deep),
+    ] {
+        assert_eq!(ask(&settled, &[record(0.0, 1.0)]), Err(Refusal::NoColumn));
+    }
 }
 
 #[test]
@@ -189,6 +297,11 @@ fn by_name_an_unknown_name_may_match_anything() {
     let named = |name| Filter::covers(Column::named(0, name), strip(1.0, 2.0));
     assert_eq!(ask_by_name(&named(8), &columns), Ok(MayMatch));
     assert_eq!(ask_by_name(&named(8), &[]), Ok(MayMatch));
+    let columns = [(41, probes(None, Some(POINT)))];
+    let deep = |name| Filter::has_z(Column::named(u32::MAX, name));
+    assert_eq!(ask_by_name(&deep(41), &columns), Ok(CannotMatch));
+    assert_eq!(ask_by_name(&deep(8), &columns), Ok(MayMatch));
+    assert_eq!(ask_by_name(&deep(8), &[]), Ok(MayMatch));
 }
 
 #[test]
@@ -245,14 +358,18 @@ fn a_filter_may_match_and_have_an_empty_box() {
 fn the_filter_box_of_each_kind_of_node() {
     let literal = strip(1.0, 2.0).with_m((55.0, 120.0));
     let other = Filter::intersects(Column::at(9), strip(50.0, 60.0));
+    let deep = || Filter::has_z(Column::at(0));
     let cases = [
         (Filter::intersects(Column::at(0), literal), literal),
         (Filter::covers(Column::at(0), literal), literal),
         (other.clone(), everywhere()),
+        (deep(), everywhere()),
         (Filter::unknown(), everywhere()),
         (Filter::literal_false(), BoundingBox::empty()),
         (near().or(far()), strip(1.0, 60.0)),
         (near().or(other.clone()), everywhere()),
+        (near().or(deep()), everywhere()),
+        (near().and(deep()), strip(1.0, 2.0)),
         (near().or(Filter::literal_false()), strip(1.0, 2.0)),
         (near().and(other.clone()), strip(1.0, 2.0)),
         // The other column's side knows no m, so neither does the box.

@@ -30,10 +30,20 @@ pub extern "C" fn johikape_evaluate_by_position(
     literal_flags: &[u8],
     records: &[f64],
     record_flags: &[u8],
+    record_types: &[u32],
+    types_known: &[u8],
 ) -> u32
-    ensures { λ r. ⌜ r ≡ filters.code (calls.evaluate tables.byPosition (tables.table (now (nodes .entry)) (now (literals .entry)) (now («literal_flags» .entry))) (tables.boxes (now (records .entry)) (now («record_flags» .entry)))) ⌝ }
+    ensures { λ r. ⌜ r ≡ filters.code (calls.evaluate tables.byPosition (tables.table (now (nodes .entry)) (now (literals .entry)) (now («literal_flags» .entry))) (tables.records (now (records .entry)) (now («record_flags» .entry)) (now («record_types» .entry)) (now («types_known» .entry)))) ⌝ }
 {
-    code(evaluate_by_position(nodes, literals, literal_flags, records, record_flags))
+    code(evaluate_by_position(
+        nodes,
+        literals,
+        literal_flags,
+        records,
+        record_flags,
+        record_types,
+        types_known,
+    ))
 }
 
 // The same, a leaf's name picking its record.
@@ -44,11 +54,22 @@ pub extern "C" fn johikape_evaluate_by_name(
     literal_flags: &[u8],
     records: &[f64],
     record_flags: &[u8],
+    record_types: &[u32],
+    types_known: &[u8],
     names: &[u32],
 ) -> u32
-    ensures { λ r. ⌜ r ≡ filters.code (calls.evaluate (tables.byName (now (names .entry))) (tables.table (now (nodes .entry)) (now (literals .entry)) (now («literal_flags» .entry))) (tables.boxes (now (records .entry)) (now («record_flags» .entry)))) ⌝ }
+    ensures { λ r. ⌜ r ≡ filters.code (calls.evaluate (tables.byName (now (names .entry))) (tables.table (now (nodes .entry)) (now (literals .entry)) (now («literal_flags» .entry))) (tables.records (now (records .entry)) (now («record_flags» .entry)) (now («record_types» .entry)) (now («types_known» .entry)))) ⌝ }
 {
-    code(evaluate_by_name(nodes, literals, literal_flags, records, record_flags, names))
+    code(evaluate_by_name(
+        nodes,
+        literals,
+        literal_flags,
+        records,
+        record_flags,
+        record_types,
+        types_known,
+        names,
+    ))
 }
 
 // The filter's box in the column of a name, into `ends` and `flag`; its number.

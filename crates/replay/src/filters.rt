@@ -60,6 +60,8 @@ fn evaluate(nodes: &Nodes, tables: Tables, is_by_name: bool) -> Evaluation {
     let literal_flags = tables.literal_flags;
     let records = tables.records;
     let record_flags = tables.record_flags;
+    let types = tables.record_types;
+    let known = tables.types_known;
     let names = tables.names;
     if is_by_name {
         return evaluate_by_name(
@@ -68,7 +70,9 @@ fn evaluate(nodes: &Nodes, tables: Tables, is_by_name: bool) -> Evaluation {
             first_flags(literal_flags.count, &literal_flags.list),
             first_doubles(records.count, &records.list),
             first_flags(record_flags.count, &record_flags.list),
-            first_names(names.count, &names.list),
+            first_sets(types.count, &types.list),
+            first_flags(known.count, &known.list),
+            first_sets(names.count, &names.list),
         );
     }
     evaluate_by_position(
@@ -77,6 +81,8 @@ fn evaluate(nodes: &Nodes, tables: Tables, is_by_name: bool) -> Evaluation {
         first_flags(literal_flags.count, &literal_flags.list),
         first_doubles(records.count, &records.list),
         first_flags(record_flags.count, &record_flags.list),
+        first_sets(types.count, &types.list),
+        first_flags(known.count, &known.list),
     )
 }
 
@@ -110,7 +116,7 @@ pub fn first_doubles<'a>(count: usize, list: &'a [f64; MOST_WORDS]) -> &'a [f64]
     all
 }
 
-// The same of flags.
+// The same of flags, or of known bytes.
 fn first_flags<'a>(count: usize, list: &'a [u8; MOST_WORDS]) -> &'a [u8] {
     let all = &list[..];
     if count < all.len() {
@@ -119,8 +125,8 @@ fn first_flags<'a>(count: usize, list: &'a [u8; MOST_WORDS]) -> &'a [u8] {
     all
 }
 
-// The same of names.
-fn first_names<'a>(count: usize, list: &'a [u32; MOST_WORDS]) -> &'a [u32] {
+// The same of type sets, or of names.
+fn first_sets<'a>(count: usize, list: &'a [u32; MOST_WORDS]) -> &'a [u32] {
     let all = &list[..];
     if count < all.len() {
         return &all[0..count];

@@ -11,6 +11,7 @@ use replay_geometry::sweep::sweep;
 use replay_text::digest::Swept;
 use replay_text::words::Doubles;
 use replay_text::words::Flags;
+use replay_text::words::MOST_WORDS;
 use replay_text::words::Sets;
 use replay_text::words::Words;
 
@@ -27,16 +28,20 @@ const SETS: usize = 4;
 
 const NAMES: usize = 5;
 
-const LITERAL_FLAGS: usize = 6;
+const RECORD_TYPES: usize = 6;
 
-const RECORD_FLAGS: usize = 7;
+const LITERAL_FLAGS: usize = 7;
 
-const NODES: usize = 8;
+const RECORD_FLAGS: usize = 8;
 
-const CHAIN: usize = 9;
+const TYPES_KNOWN: usize = 9;
+
+const NODES: usize = 10;
+
+const CHAIN: usize = 11;
 
 // Of a line that sets nothing.
-pub const NO_SETTING: usize = 10;
+pub const NO_SETTING: usize = 12;
 
 // What a line sets, by its first word.
 pub fn setting_named(first: &[u8]) -> usize {
@@ -66,6 +71,12 @@ fn table_named(first: &[u8]) -> usize {
     if same(first, b"record_flags") {
         return RECORD_FLAGS;
     }
+    if same(first, b"record_types") {
+        return RECORD_TYPES;
+    }
+    if same(first, b"types_known") {
+        return TYPES_KNOWN;
+    }
     if same(first, b"names") {
         return NAMES;
     }
@@ -86,10 +97,10 @@ fn nodes_named(first: &[u8]) -> usize {
 pub struct Kept {
     // The values and the ends of intervals that sweeps go over; the ends of literals and of records.
     doubles: [Doubles; 4],
-    // The type sets that sweeps go over; the names of columns.
-    sets: [Sets; 2],
-    // Of literals and of records.
-    flags: [Flags; 2],
+    // The type sets that sweeps go over; the names of columns; the types of records.
+    sets: [Sets; 3],
+    // Of literals and of records; whether the types of records are known.
+    flags: [Flags; 3],
     // How many words of the nodes are lent.
     node_words: usize,
     // Whether the last line that was to set something did.
@@ -102,8 +113,8 @@ impl Kept {
         let none = Words::none();
         Kept {
             doubles: [none.as_doubles(); 4],
-            sets: [none.as_sets(); 2],
-            flags: [none.as_flags(); 2],
+            sets: [none.as_sets(); 3],
+            flags: [none.as_flags(); 3],
             node_words: 0,
             is_good: true,
         }
@@ -136,23 +147,40 @@ impl Kept {
         kept
     }
 
-    // With other type sets, or names.
+    // With other type sets, names, or types of records.
     fn with_sets(self, place: usize, words: Words) -> Kept {
         let mut kept = self;
         kept.is_good = words.are_sets;
         if kept.is_good {
-            kept.sets[place % 2] = words.as_sets();
+            kept.sets[place % 3] = words.as_sets();
         }
         kept
     }
 
-    // With other flags.
+    // With other flags, or known bytes.
     fn with_flags(self, place: usize, words: Words) -> Kept {
         let mut kept = self;
         kept.is_good = words.are_flags;
         if kept.is_good {
-            kept.flags[place % 2] = words.as_flags();
+            kept.flags[place % 3] = words.as_flags();
+            if place == RECORD_FLAGS - LITERAL_FLAGS {
+                return kept.with_unknown_types(words.count);
+            }
         }
+        kept
+    }
+
+    // With the types of so many records, none of which are known until a line says so.
+    fn with_unknown_types(self, count: usize) -> Kept {
+        let mut kept = self;
+        kept.sets[RECORD_TYPES - SETS] = Sets {
+            list: [0; MOST_WORDS],
+            count,
+        };
+        kept.flags[TYPES_KNOWN - LITERAL_FLAGS] = Flags {
+            list: [0; MOST_WORDS],
+            count,
+        };
         kept
     }
 
@@ -191,6 +219,8 @@ impl Kept {
             literal_flags: flags[0],
             records: doubles[RECORDS],
             record_flags: flags[1],
+            record_types: sets[RECORD_TYPES - SETS],
+            types_known: flags[TYPES_KNOWN - LITERAL_FLAGS],
             names: sets[NAMES - SETS],
         }
     }

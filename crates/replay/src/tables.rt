@@ -1,4 +1,5 @@
-// The tables that a filter call is lent: nodes, the boxes of literals and of records, and names.
+// The tables that a filter call is lent: nodes, the boxes of literals and of records, the records'
+// types, and names.
 use replay_text::words::Doubles;
 use replay_text::words::Flags;
 use replay_text::words::MOST_WORDS;
@@ -16,6 +17,8 @@ pub struct Tables {
     pub literal_flags: Flags,
     pub records: Doubles,
     pub record_flags: Flags,
+    pub record_types: Sets,
+    pub types_known: Flags,
     pub names: Sets,
 }
 

@@ -1,11 +1,12 @@
 -- What a fold of records is where it is not refused, and where it is refused. Assumes nothing.
-use mathlib.Core.Logic.{_⊎_, inl, inr}
+use mathlib.Core.Logic.{_⊎_, inl, inr, ⊎-elim}
 use mathlib.Core.Path.{_≡_, refl, sym, subst, ap, _∙_}
 use mathlib.Core.Bool.{Bool, true, false, _||_}
 use mathlib.Core.List.{List, [], _∷_}
 use Prim.Native.Nat.{ℕ}
 use native.Mathlib.Omega.{arith}
-use Rattle.sedona_expr.specs.Statistics.{totalsOverflow, countsOverflow, mergeParts, mergeValue, first, step, foldFrom, fold}
+use Rattle.sedona_expr.specs.Statistics.{totalsOverflow, countsOverflow, mergeParts, mergeValue, first, step, foldFrom, fold, All}
+use Rattle.sedona_expr.specs.Demand.{Some}
 use Rattle.sedona_expr.specs.Error as error
 use Rattle.sedona_expr.specs.declared.statistics.GeoStatistics.{GeoStatistics}
 use Rattle.sedona_expr.specs.declared.statistics.Folded.{Folded}
@@ -78,3 +79,24 @@ fold-number a (r ∷ rs) = go (overflow a r) refl (fold-number (mergeParts a r) 
 pub fold-first : (r : GeoStatistics) (rs : List GeoStatistics) → fold (r ∷ rs) ≡ foldFrom (first r) rs
 unfolding foldFrom step
 fold-first r rs = refl
+
+-- ---- what a fold keeps
+pub some-map : {A : Type 0} (P Q : A → Type 0) (xs : List A) → ((x : A) → P x → Q x) → Some P xs → Some Q xs
+some-map P Q [] f h = absurd h
+some-map P Q (x ∷ xs) f h = ⊎-elim (λ p. inl (f x p)) (λ q. inr (some-map P Q xs f q)) h
+
+-- where I is so of each record and merging keeps it so
+module _ (I P : GeoStatistics → Type 0) (both : (a b : GeoStatistics) → I a → I b → I (mergeParts a b))
+    (either : (a b : GeoStatistics) → I a → I b → P a ⊎ P b → P (mergeParts a b)) where
+  merged-keeps : (a : GeoStatistics) (rs : List GeoStatistics) → I a → All I rs → P a ⊎ Some P rs → P (mergeAll a rs)
+  merged-keeps a [] i h p = ⊎-elim (λ q. q) (λ q. absurd q) p
+  merged-keeps a (r ∷ rs) i h p =
+      let keep = either a r i (h .0) in
+      merged-keeps (mergeParts a r) rs (both a r i (h .0)) (h .1) (⊎-elim (λ q. inl (keep (inl q))) (λ q. ⊎-elim (λ s. inl (keep (inr s))) (λ s. inr s) q) p)
+
+  -- What merging keeps of either record, a fold keeps of any.
+  pub fold-keeps : (rs : List GeoStatistics) → All I rs → fold rs .number ≡ 0 → Some P rs → P (fold rs .rec)
+  fold-keeps [] h e p = absurd p
+  fold-keeps (r ∷ rs) h e p =
+      let f = fits-of-fold r rs (rw (fold-first r rs) at e) in
+      subst (λ (g : Folded). P (g .rec)) (sym (fold-first r rs ∙ fold-of-fits r rs f)) (merged-keeps r rs (h .0) (h .1) p)

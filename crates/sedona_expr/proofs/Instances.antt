@@ -7,16 +7,18 @@ use Rattle.sedona_geometry.proofs.Instances as boxes
 use Rattle.sedona_expr.specs.Statistics.{leaves, most, sumLeaves, totalsOverflow, countsOverflow, mergeValue, step, foldFrom, fold, All, DoublesWhereKnown, NoLess, Which, points, total, PrefixSumsFit, Tree, leaf, node, mergeTree, mergeAnswers, AllLeaves, empty}
 use Rattle.sedona_expr.specs.declared.statistics.Bbox as Bbox
 use Rattle.sedona_expr.specs.declared.statistics.Bbox.{Bbox}
+use Rattle.sedona_expr.specs.declared.statistics.GeometryTypes as GeometryTypes
+use Rattle.sedona_expr.specs.declared.statistics.GeometryTypes.{GeometryTypes}
 use Rattle.sedona_expr.specs.declared.statistics.Total as Total
 use Rattle.sedona_expr.specs.declared.statistics.Total.{Total}
 use Rattle.sedona_expr.specs.declared.statistics.GeoStatistics.{GeoStatistics}
 use Rattle.sedona_expr.proofs.Theorems as theorems
 
--- No geometries but in a box, and some points.
-abbrev pub reading : Bbox → ℤ → GeoStatistics
-reading c n = record {
+-- No geometries but in a box, of these types, and some points.
+abbrev pub reading : Bbox → GeometryTypes → ℤ → GeoStatistics
+reading c t n = record {
   bbox = c;
-  «geometry_types» = empty .«geometry_types»;
+  «geometry_types» = t;
   «total_geometries» = empty .«total_geometries»;
   «total_size_bytes» = empty .«total_size_bytes»;
   «total_points» = Total.Known n;
@@ -29,10 +31,10 @@ reading c n = record {
 }
 
 abbrev pub first : GeoStatistics
-first = reading (Bbox.Known boxes.a) (pos 3)
+first = reading (Bbox.Known boxes.a) GeometryTypes.Missing (pos 3)
 
 abbrev pub second : GeoStatistics
-second = reading (Bbox.Known boxes.b) (pos 4)
+second = reading (Bbox.Known boxes.b) GeometryTypes.Missing (pos 4)
 
 abbrev pub records : List GeoStatistics
 records = first ∷ second ∷ []
@@ -64,10 +66,10 @@ pub no-less-in-tree : AllLeaves (λ r. NoLess (mergeTree tree .rec .bbox) (r .bb
 no-less-in-tree = theorems.no-box-shrinks-in-trees tree (boxes.a-doubles, boxes.b-doubles) tree-fits
 
 -- 2^63 − 1 plus 0 fits, plus 1 does not.
-pub at-the-limit : fold (reading Bbox.Missing most ∷ reading Bbox.Missing (pos 0) ∷ []) .number ≡ 0
+pub at-the-limit : fold (reading Bbox.Missing GeometryTypes.Missing most ∷ reading Bbox.Missing GeometryTypes.Missing (pos 0) ∷ []) .number ≡ 0
 unfolding leaves sumLeaves totalsOverflow countsOverflow mergeValue step foldFrom
 at-the-limit = refl
 
-pub over-the-limit : fold (reading Bbox.Missing most ∷ reading Bbox.Missing (pos 1) ∷ []) .number ≡ 3
+pub over-the-limit : fold (reading Bbox.Missing GeometryTypes.Missing most ∷ reading Bbox.Missing GeometryTypes.Missing (pos 1) ∷ []) .number ≡ 3
 unfolding leaves sumLeaves totalsOverflow countsOverflow mergeValue step foldFrom
 over-the-limit = refl

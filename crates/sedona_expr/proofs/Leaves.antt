@@ -10,9 +10,9 @@ use Rattle.sedona_geometry.specs.Interval as interval
 use Rattle.sedona_geometry.specs.BoundingBox.{Doubles, DoublesWhereKnown}
 use Rattle.sedona_geometry.specs.declared.bounding_box.BoundingBox.{BoundingBox}
 use Rattle.sedona_expr.specs.Statistics.{All}
-use Rattle.sedona_expr.specs.SpatialFilter.{Column, Filter, intersects, covers, and, or, literalFalse, unknown}
-use Rattle.sedona_expr.specs.Tables.{Boxes, hasBox, intervalAt, boxWith, boxAt, orEmpty, Table, kind, word, isLeaf, isPair, areBelow, leafOf, pairOf, treeOf, treesBelow, treeAt, hasZ, hasM}
-use Rattle.sedona_expr.specs.Demand.{EachLeaf}
+use Rattle.sedona_expr.specs.SpatialFilter.{Column, Filter, intersects, covers, hasZ, and, or, literalFalse, unknown}
+use Rattle.sedona_expr.specs.Tables.{Boxes, hasBox, intervalAt, boxWith, boxAt, orEmpty, Table, kind, word, isLeaf, isPair, areBelow, leafOf, pairOf, treeOf, treesBelow, treeAt, knowsZ, knowsM}
+use Rattle.sedona_expr.specs.Demand.{Leaf, anIntersects, aCovers, aHasZ, EachLeaf, OfLiteral}
 use Rattle.sedona_expr.proofs.StraightBoxes.{empty-straight}
 
 -- ---- either of two, and any of a list
@@ -26,19 +26,27 @@ of-getD P (x ∷ xs) zero p h = h .0
 of-getD P (x ∷ xs) (suc i) p h = of-getD P xs i p (h .1)
 
 -- ---- what follows from two facts of a leaf
-pub leaves-zip : (P Q R : Bool → Column → BoundingBox → Type 0) → ((v : Bool) (c : Column) (k : BoundingBox) → P v c k → Q v c k → R v c k)
-    → (f : Filter) → EachLeaf P f → EachLeaf Q f → EachLeaf R f
-leaves-zip P Q R g (intersects c k) p q = g false c k p q
-leaves-zip P Q R g (covers c k) p q = g true c k p q
+pub leaves-zip : (P Q R : Leaf → Column → Type 0) → ((l : Leaf) (c : Column) → P l c → Q l c → R l c) → (f : Filter) → EachLeaf P f → EachLeaf Q f → EachLeaf R f
+leaves-zip P Q R g (intersects c k) p q = g (anIntersects k) c p q
+leaves-zip P Q R g (covers c k) p q = g (aCovers k) c p q
+leaves-zip P Q R g (hasZ c) p q = g aHasZ c p q
 leaves-zip P Q R g (and f h) p q = (leaves-zip P Q R g f (p .0) (q .0), leaves-zip P Q R g h (p .1) (q .1))
 leaves-zip P Q R g (or f h) p q = (leaves-zip P Q R g f (p .0) (q .0), leaves-zip P Q R g h (p .1) (q .1))
 leaves-zip P Q R g literalFalse p q = tt
 leaves-zip P Q R g unknown p q = tt
 
+pub literal-zip : (P Q R : BoundingBox → Type 0) → ((k : BoundingBox) → P k → Q k → R k) → (l : Leaf) → OfLiteral P l → OfLiteral Q l → OfLiteral R l
+literal-zip P Q R g (anIntersects k) p q = g k p q
+literal-zip P Q R g (aCovers k) p q = g k p q
+literal-zip P Q R g aHasZ p q = tt
+
+pub literal-map : (P R : BoundingBox → Type 0) → ((k : BoundingBox) → P k → R k) → (l : Leaf) → OfLiteral P l → OfLiteral R l
+literal-map P R g l p = literal-zip P P R (λ k a b. g k a) l p p
+
 -- ---- what is so of every literal of a table is so of the leaves that it spells
 module _ (t : Table) (P : BoundingBox → Type 0) (every : (i : ℕ) → P (orEmpty (boxAt (t .literals) i))) where
   abbrev Every : Filter → Type 0
-  Every f = EachLeaf (λ v c k. P k) f
+  Every f = EachLeaf (λ l c. OfLiteral P l) f
 
   leaves-of-node : (n : ℕ) (below : ℕ → Filter) → ((m : ℕ) → Every (below m)) → Every (treeOf t n below)
   unfolding treeOf leafOf pairOf
@@ -48,7 +56,8 @@ module _ (t : Table) (P : BoundingBox → Type 0) (every : (i : ℕ) → P (orEm
       let r = h (word (t .nodes) n 2) in
       let e = every (word (t .nodes) n 3) in
       of-cond Every (isLeaf k) (of-cond Every (eqb k 0) e e)
-      (of-cond Every (isPair k) (of-cond Every (areBelow (t .nodes) n) (of-cond Every (eqb k 3) (l, r) (l, r)) tt) (of-cond Every (eqb k 5) tt tt))
+      (of-cond Every (eqb k 2) tt
+      (of-cond Every (isPair k) (of-cond Every (areBelow (t .nodes) n) (of-cond Every (eqb k 3) (l, r) (l, r)) tt) (of-cond Every (eqb k 5) tt tt)))
 
   leaves-below : (n m : ℕ) → Every (treesBelow t n m)
   leaves-below zero m = tt
@@ -71,8 +80,8 @@ module _ (b : Boxes) (h : All (λ d. T (fits binary64 d)) (b .doubles)) where
   box-doubles i flag = record {
     x = interval-doubles i 0;
     y = interval-doubles i 1;
-    z = of-cond DoublesWhereKnown (hasZ flag) (interval-doubles i 2) tt;
-    m = of-cond DoublesWhereKnown (hasM flag) (interval-doubles i 3) tt;
+    z = of-cond DoublesWhereKnown (knowsZ flag) (interval-doubles i 2) tt;
+    m = of-cond DoublesWhereKnown (knowsM flag) (interval-doubles i 3) tt;
   }
 
   pub literal-doubles : (i : ℕ) → Doubles (orEmpty (boxAt b i))

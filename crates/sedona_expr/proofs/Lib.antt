@@ -1,10 +1,12 @@
 pub mod Demand3
 pub mod Folding
 pub mod Folds
+pub mod HasZ
 pub mod Instances
 pub mod Leaves
 pub mod Marked
 pub mod Marks
+pub mod Masks
 pub mod MayMatch
 pub mod Needed
 pub mod Passing
@@ -17,3 +19,4 @@ pub mod Trees
 pub mod WantedRow
 pub mod While
 pub mod Whole
+pub mod WithoutHasZ

@@ -11,15 +11,18 @@ use Rattle.sedona_geometry.specs.declared.bounding_box.Dimension.{Dimension}
 use Rattle.sedona_geometry.specs.declared.bounding_box.BoundingBox.{BoundingBox}
 use Rattle.sedona_geometry.proofs.Order.{holds, is-true, or-right}
 use Rattle.sedona_geometry.proofs.Boxes as boxes
-use Rattle.sedona_expr.specs.Statistics.{All, DoublesWhereKnown, NoLess, fold}
-use Rattle.sedona_expr.specs.SpatialFilter.{Column, Filter, intersects, covers, and, or, literalFalse, unknown, mayIntersect, mayCover, answer}
-use Rattle.sedona_expr.specs.Demand.{HasBox, Holds, EachLeaf, Some, Folds, UnderCovers, WhereBox}
+use Rattle.sedona_expr.specs.Statistics.{All, DoublesWhereKnown, NoLess, mergeParts, fold}
+use Rattle.sedona_expr.specs.SpatialFilter.{Column, Filter, intersects, covers, hasZ, and, or, literalFalse, unknown, mayIntersect, mayCover, mayHaveZ, answer}
+use Rattle.sedona_expr.specs.Demand.{Cell, HasBox, MissingOrRising, HoldsZ, Holds, Leaf, aCovers, aHasZ, EachLeaf, Some, Folds, UnderCovers, WhereBox, HasBit}
 use Rattle.sedona_expr.specs.declared.statistics.Bbox as Bbox
 use Rattle.sedona_expr.specs.declared.statistics.Bbox.{Bbox}
 use Rattle.sedona_expr.specs.declared.statistics.GeoStatistics.{GeoStatistics}
+use Rattle.sedona_expr.specs.declared.tables.ColumnRecord.{ColumnRecord}
+use Rattle.sedona_expr.proofs.Folds.{some-map, fold-keeps}
+use Rattle.sedona_expr.proofs.HasZ.{fold-types, fold-z, may-have-z}
 use Rattle.sedona_expr.proofs.Points.{ordered}
 use Rattle.sedona_expr.proofs.StraightBoxes.{StraightBox, Unwrapped, straight-where, Holding, fold-holding}
-use Rattle.sedona_expr.proofs.Theorems.{no-box-shrinks}
+use Rattle.sedona_expr.proofs.Theorems.{merge-doubles, no-box-shrinks}
 
 -- ---- lists of records
 -- what is so of every record's box is so of the row's, which is among them
@@ -27,6 +30,10 @@ of-own : (P : Bbox → Type 0) (rs : List GeoStatistics) {own : Bbox} → All (�
 of-own P [] h a = absurd a
 of-own P (s ∷ rs) h (inl e) = rw e at (h .0)
 of-own P (s ∷ rs) h (inr a) = of-own P rs (h .1) a
+
+-- and what is so of the row's box is so of some record's
+some-own : (P : Bbox → Type 0) (rs : List GeoStatistics) {own : Bbox} → P own → Some (λ s. s .bbox ≡ own) rs → Some (λ s. P (s .bbox)) rs
+some-own P rs {own} h = some-map (λ s. s .bbox ≡ own) (λ s. P (s .bbox)) rs (λ s e. rw e h)
 
 all-zip : {A : Type 0} (P Q R : A → Type 0) (xs : List A) → ((x : A) → P x → Q x → R x) → All P xs → All Q xs → All R xs
 all-zip P Q R [] f p q = tt
@@ -66,26 +73,43 @@ unfolding mayCover
 may-cover Bbox.Missing k h = refl
 may-cover (Bbox.Known b) k h = boxes.whole h
 
--- ---- the two leaves
-module _ {rs : List GeoStatistics} {own lent : Bbox} (F : Folds rs own lent) where
-  fold-no-less : NoLess lent own
-  fold-no-less = rw (F .folded) (of-own (λ b. NoLess (fold rs .rec .bbox) b) rs (no-box-shrinks rs (F .doubles) (F .fit)) (F .among))
+-- ---- the leaves
+module _ {f : Leaf} {rs : List GeoStatistics} {own : Cell} {lent : ColumnRecord} (F : Folds f rs own lent) where
+  own-box : Some (λ s. s .bbox ≡ own .bbox) rs
+  own-box = some-map _ (λ s. s .bbox ≡ own .bbox) rs (λ s a. a .0) (F .among)
 
-  fold-covers : (k : BoundingBox) → UnderCovers true rs k → Holding k own → Holding k lent
-  fold-covers k u =
+  fold-no-less : NoLess (lent .bbox) (own .bbox)
+  fold-no-less = rw (F .folded) (of-own (NoLess (fold rs .rec .bbox)) rs (no-box-shrinks rs (F .doubles) (F .fit)) own-box)
+
+  fold-covers : (k : BoundingBox) → UnderCovers (aCovers k) rs → Holding k (own .bbox) → Holding k (lent .bbox)
+  fold-covers k u h =
       rw (F .folded)
-      (of-own (λ b. Holding k b → Holding k (fold rs .rec .bbox)) rs
       (fold-holding k (ordered (k .x .inner) (u .1)) rs
       (all-zip (λ s. DoublesWhereKnown (s .bbox)) (λ s. WhereBox Unwrapped (s .bbox)) (λ s. WhereBox StraightBox (s .bbox)) rs (λ s. straight-where (s .bbox)) (F .doubles) (u .0))
-      (F .fit))
-      (F .among))
+      (F .fit)
+      (some-own (Holding k) rs h own-box))
+
+  fold-doubles : DoublesWhereKnown (lent .bbox)
+  unfolding mergeParts
+  fold-doubles =
+      let D : GeoStatistics → Type 0 = λ s. DoublesWhereKnown (s .bbox) in
+      let both : (a b : GeoStatistics) → D a → D b → D (mergeParts a b) = λ a b. merge-doubles (a .bbox) (b .bbox) in
+      rw (F .folded) (fold-keeps D D both (λ a b i j e. both a b i j) rs (F .doubles) (F .fit) (some-own DoublesWhereKnown rs (of-own DoublesWhereKnown rs (F .doubles) own-box) own-box))
+
+-- a HasZ that holds of the row: z and the type's bit stay in the fold
+fold-has-z : {rs : List GeoStatistics} {own : Cell} {lent : ColumnRecord} → Folds aHasZ rs own lent → HoldsZ own → mayHaveZ lent ≡ true
+fold-has-z {rs} {own} {lent} F h =
+    let z : HasBox MissingOrRising (lent .bbox) = rw (F .folded) (fold-z rs (F .fit) (some-own (HasBox MissingOrRising) rs (h .z) (own-box F))) in
+    let t : HasBit (own .bit) (lent .types) = rw (F .folded) (fold-types (own .bit) rs (F .fit) (some-map _ (λ s. HasBit (own .bit) (s .«geometry_types»)) rs (λ s a. a .1 h) (F .among))) in
+    may-have-z (own .bit) lent (fold-doubles F) z (h .type) t
 
 -- ---- the whole filter
-module _ (own lent : Column → Bbox) (lists : Column → List GeoStatistics) where
-  pub may-match : (f : Filter) → EachLeaf (λ v c k. Folds (lists c) (own c) (lent c)) f → EachLeaf (λ v c k. UnderCovers v (lists c) k) f
+module _ (own : Column → Cell) (lent : Column → ColumnRecord) (lists : Column → List GeoStatistics) where
+  pub may-match : (f : Filter) → EachLeaf (λ l c. Folds l (lists c) (own c) (lent c)) f → EachLeaf (λ l c. UnderCovers l (lists c)) f
       → Holds own f → answer lent f ≡ true
-  may-match (intersects c k) F u h = may-intersect (lent c) (own c) k (fold-no-less F) h
-  may-match (covers c k) F u h = may-cover (lent c) k (fold-covers F k u (contains-parts (own c) k h))
+  may-match (intersects c k) F u h = may-intersect (lent c .bbox) (own c .bbox) k (fold-no-less F) h
+  may-match (covers c k) F u h = may-cover (lent c .bbox) k (fold-covers F k u (contains-parts (own c .bbox) k h))
+  may-match (hasZ c) F u h = fold-has-z F h
   may-match (and f g) F u h = rw (may-match f (F .0) (u .0) (h .0), may-match g (F .1) (u .1) (h .1))
   may-match (or f g) F u (inl h) = rw (may-match f (F .0) (u .0) h)
   may-match (or f g) F u (inr h) = is-true (answer lent f || answer lent g) (or-right (answer lent f) (answer lent g) (holds (may-match g (F .1) (u .1) h)))

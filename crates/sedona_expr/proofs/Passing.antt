@@ -9,8 +9,8 @@ use lib.Dec.{eqb, ltb}
 use lib.ListN.{length}
 use borrow.Author.Tests.{eqb-true, eqb-false, eq-eqb, ne-eqb, ltb-false}
 use Rattle.sedona_expr.specs.Error as error
-use Rattle.sedona_expr.specs.Tables.{Boxes, Table, Lookup, lookup, kind, word, count, isPair, isLeaf}
-use Rattle.sedona_expr.specs.Refusals.{orElse, when, wordsRefusal, asksIndex, isLent, leafRefusal, nodeRefusal, nodesRefusal, usesRefusal, tableRefusal, treeRefusal, recordsRefusal, refusal, boxRefusal}
+use Rattle.sedona_expr.specs.Tables.{Records, Table, Lookup, lookup, kind, word, count, isPair, isLeaf}
+use Rattle.sedona_expr.specs.Refusals.{orElse, when, wordsRefusal, asksIndex, isLent, columnRefusal, leafRefusal, nodeRefusal, nodesRefusal, usesRefusal, tableRefusal, treeRefusal, recordsRefusal, refusal, boxRefusal}
 
 -- ---- eight doubles a flag, by quotient and remainder
 pub not-in-eights : (d f : ℕ) → (d % 8 ≡ 0 → ⊥) → eqb d (8 * f) ≡ false
@@ -64,7 +64,7 @@ pub table-pass : (t : Table) (n : ℕ) → n ≡ tableRefusal t → n ≡ 0 → 
 unfolding tableRefusal
 table-pass t n is e = words-pass (t .nodes) (or-else-zero (wordsRefusal (t .nodes)) _ (sym is ∙ e) .0)
 
-pub refusal-pass : (l : Lookup) (t : Table) (r : Boxes) (n : ℕ) → n ≡ refusal l t r → n ≡ 0 → (1 ≤ count (t .nodes)) × (length (t .nodes) ≤ 4096)
+pub refusal-pass : (l : Lookup) (t : Table) (r : Records) (n : ℕ) → n ≡ refusal l t r → n ≡ 0 → (1 ≤ count (t .nodes)) × (length (t .nodes) ≤ 4096)
 unfolding refusal
 refusal-pass l t r n is e = table-pass t (tableRefusal t) refl (or-else-zero (tableRefusal t) _ (sym is ∙ e) .0)
 
@@ -83,15 +83,19 @@ cond-none false f g h = g h
 
 -- ---- node by node, where no index is asked for
 module _ (ns : List ℕ) (literals : ℕ) (lent : ℕ → Bool) where
+  column-none : (n : ℕ) → columnRefusal ns lent n ≡ 0 → columnRefusal ns (isLent false 0) n ≡ 0
+  unfolding columnRefusal isLent
+  column-none n h = refl
+
   leaf-none : (n : ℕ) → leafRefusal ns literals lent n ≡ 0 → leafRefusal ns literals (isLent false 0) n ≡ 0
-  unfolding leafRefusal isLent
-  leaf-none n = cond-none (ltb (word ns n 3) literals) (λ h. refl) (λ h. h)
+  unfolding leafRefusal
+  leaf-none n = cond-none (ltb (word ns n 3) literals) (column-none n) (λ h. h)
 
   node-none : (n : ℕ) → nodeRefusal ns literals lent n ≡ 0 → nodeRefusal ns literals (isLent false 0) n ≡ 0
   unfolding nodeRefusal
   node-none n =
       cond-none (ltb 6 (kind ns n)) (λ h. h)
-      (cond-none (eqb (kind ns n) 2) (λ h. h) (cond-none (isPair (kind ns n)) (λ h. h) (cond-none (isLeaf (kind ns n)) (leaf-none n) (λ h. h))))
+      (cond-none (eqb (kind ns n) 2) (column-none n) (cond-none (isPair (kind ns n)) (λ h. h) (cond-none (isLeaf (kind ns n)) (leaf-none n) (λ h. h))))
 
   nodes-none : (n : ℕ) → nodesRefusal ns literals lent n ≡ 0 → nodesRefusal ns literals (isLent false 0) n ≡ 0
   nodes-none zero h = refl
@@ -106,10 +110,10 @@ module _ (ns : List ℕ) (literals : ℕ) (lent : ℕ → Bool) where
       or-else-none (nodes-none (count ns) (b .0)) (b .1)
 
 -- ---- the whole table
-pub box-not-refused : (l : Lookup) (t : Table) (r : Boxes) → refusal l t r ≡ 0 → boxRefusal t ≡ 0
+pub box-not-refused : (l : Lookup) (t : Table) (r : Records) → refusal l t r ≡ 0 → boxRefusal t ≡ 0
 unfolding refusal boxRefusal
 box-not-refused l t r h =
-    let lent = isLent (asksIndex l) (length (r .flags)) in
+    let lent = isLent (asksIndex l) (length (r .boxes .flags)) in
     let tree = treeRefusal (t .nodes) (length (t .literals .flags)) lent in
     let a = or-else-zero (tableRefusal t) (orElse (recordsRefusal l r) tree) h in
     let b = or-else-zero (recordsRefusal l r) tree (a .1) in

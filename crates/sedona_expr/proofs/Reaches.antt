@@ -10,8 +10,8 @@ use Rattle.sedona_geometry.specs.BoundingBox.{Doubles}
 use Rattle.sedona_geometry.specs.declared.bounding_box.BoundingBox.{BoundingBox}
 use Rattle.sedona_geometry.proofs.Contains.{Straight}
 use Rattle.sedona_geometry.proofs.Boxes.{Parts, parts}
-use Rattle.sedona_expr.specs.SpatialFilter.{Column, Filter, intersects, covers, and, or, literalFalse, unknown, full, boxFor}
-use Rattle.sedona_expr.specs.Demand.{HasBox, Holds, EachLeaf, Each}
+use Rattle.sedona_expr.specs.SpatialFilter.{Column, Filter, intersects, covers, hasZ, and, or, literalFalse, unknown, full, boxFor}
+use Rattle.sedona_expr.specs.Demand.{Cell, HasBox, Holds, EachLeaf, OfLiteral, Each}
 use Rattle.sedona_expr.specs.declared.statistics.Bbox as Bbox
 use Rattle.sedona_expr.specs.declared.statistics.Bbox.{Bbox}
 use Rattle.sedona_expr.proofs.Leaves.{of-cond}
@@ -24,7 +24,7 @@ pub record Literal (k : BoundingBox) : Type 0 where
   pub ordered : Each Ordered k
 
 abbrev pub Literals : Filter → Type 0
-Literals f = EachLeaf (λ v c k. Literal k) f
+Literals f = EachLeaf (λ l c. OfLiteral Literal l) f
 
 literal-straight : {k : BoundingBox} → Literal k → StraightBox k
 literal-straight L = record { doubles = L .doubles; x = Straight.ordered (L .ordered .x) }
@@ -33,26 +33,28 @@ literal-straight L = record { doubles = L .doubles; x = Straight.ordered (L .ord
 pub box-straight : (n : ℕ) (f : Filter) → Literals f → StraightBox (boxFor n f)
 box-straight n (intersects c k) L = of-cond StraightBox (eqb (c .name) n) (literal-straight L) full-straight
 box-straight n (covers c k) L = of-cond StraightBox (eqb (c .name) n) (literal-straight L) full-straight
+box-straight n (hasZ c) L = full-straight
 box-straight n (and f g) L = intersection-straight (box-straight n f (L .0)) (box-straight n g (L .1))
 box-straight n (or f g) L = merge-straight (box-straight n f (L .0)) (box-straight n g (L .1))
 box-straight n literalFalse L = empty-straight
 box-straight n unknown L = full-straight
 
 -- ---- where the filter holds, the box contains the point of the columns of that name
-module _ (n : ℕ) (own : Column → Bbox) (b : BoundingBox) (D : Doubles b) (p : Each Point b) where
+module _ (n : ℕ) (own : Column → Cell) (b : BoundingBox) (D : Doubles b) (p : Each Point b) where
   abbrev OfName : Column → Type 0
-  OfName c = c .name ≡ n → own c ≡ Bbox.Known b
+  OfName c = c .name ≡ n → own c .bbox ≡ Bbox.Known b
 
-  leaf-reaches : (c : Column) (k : BoundingBox) (P : BoundingBox → Type 0) → OfName c → (P b → Parts k b) → HasBox P (own c) → Parts (cond (eqb (c .name) n) k full) b
+  leaf-reaches : (c : Column) (k : BoundingBox) (P : BoundingBox → Type 0) → OfName c → (P b → Parts k b) → HasBox P (own c .bbox) → Parts (cond (eqb (c .name) n) k full) b
   leaf-reaches c k P e g h = go (eqb (c .name) n) refl
     where
       go : (t : Bool) → eqb (c .name) n ≡ t → Parts (cond t k full) b
       go true q = g (rw (e (eqb-true (c .name) n q)) at h)
       go false q = full-reaches D p
 
-  pub reaches : (f : Filter) → Literals f → EachLeaf (λ v c k. OfName c) f → Holds own f → Parts (boxFor n f) b
+  pub reaches : (f : Filter) → Literals f → EachLeaf (λ l c. OfLiteral (λ k. OfName c) l) f → Holds own f → Parts (boxFor n f) b
   reaches (intersects c k) L e h = leaf-reaches c k (λ a. boundingBox.Common a k) e (common-reaches D (L .doubles) p (L .ordered)) h
   reaches (covers c k) L e h = leaf-reaches c k (λ a. boundingBox.contains a k ≡ true) e (λ a. contained-reaches D (L .doubles) p (L .ordered) (parts a)) h
+  reaches (hasZ c) L e h = full-reaches D p
   reaches (and f g) L e h =
       intersection-contains (box-straight n f (L .0)) (box-straight n g (L .1)) (point-low-to-high p) (reaches f (L .0) (e .0) (h .0)) (reaches g (L .1) (e .1) (h .1))
   reaches (or f g) L e h =

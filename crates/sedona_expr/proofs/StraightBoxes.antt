@@ -1,9 +1,9 @@
 -- Boxes whose x runs straight, empty or low to high: merging and intersecting keep them so, and a fold of them contains what one of its records
 -- contains. Assumes nothing.
-use mathlib.Core.Path.{_≡_, refl, sym, subst, _∙_}
+use mathlib.Core.Path.{_≡_, refl}
 use mathlib.Core.Logic.{_⊎_, inl, inr, ⊎-elim}
 use mathlib.Core.Bool.{true, false}
-use mathlib.Core.List.{List, [], _∷_}
+use mathlib.Core.List.{List}
 use lib.Ieee.{eq, sub}
 use Rattle.sedona_geometry.specs.Interval as interval
 use Rattle.sedona_geometry.specs.WraparoundInterval as wraparound
@@ -21,12 +21,11 @@ use Rattle.sedona_geometry.proofs.Boxes.{Parts, met}
 use Rattle.sedona_expr.specs.Statistics as statistics
 use Rattle.sedona_expr.specs.Statistics.{All, mergeBboxes, mergeParts, fold}
 use Rattle.sedona_expr.specs.SpatialFilter.{full, orFull}
-use Rattle.sedona_expr.specs.Demand.{WhereBox, HasBox}
+use Rattle.sedona_expr.specs.Demand.{WhereBox, HasBox, Some}
 use Rattle.sedona_expr.specs.declared.statistics.Bbox as Bbox
 use Rattle.sedona_expr.specs.declared.statistics.Bbox.{Bbox}
 use Rattle.sedona_expr.specs.declared.statistics.GeoStatistics.{GeoStatistics}
-use Rattle.sedona_expr.specs.declared.statistics.Folded.{Folded}
-use Rattle.sedona_expr.proofs.Folds.{mergeAll, fits-of-fold, fold-of-fits, fold-first}
+use Rattle.sedona_expr.proofs.Folds.{fold-keeps}
 
 pub record StraightBox (b : BoundingBox) : Type 0 where
   pub doubles : Doubles b
@@ -115,21 +114,9 @@ module _ (k : BoundingBox) (l : Le (k .x .inner .lo) (k .x .inner .hi)) where
   merge-holding (Bbox.Known a) Bbox.Missing s t h = ⊎-elim (λ p. p) (λ q. absurd q) h
   merge-holding (Bbox.Known a) (Bbox.Known b) s t h = merge-contains s t l h
 
-  -- of the first record and of each that is merged in
-  merged-holding : (a : GeoStatistics) (rs : List GeoStatistics) → WhereBox StraightBox (a .bbox) → All (λ r. WhereBox StraightBox (r .bbox)) rs
-      → (Holding k (a .bbox) → Holding k (mergeAll a rs .bbox)) × All (λ r. Holding k (r .bbox) → Holding k (mergeAll a rs .bbox)) rs
-  unfolding mergeParts
-  merged-holding a [] s t = (λ p. p, tt)
-  merged-holding a (r ∷ rs) s t =
-      let n = merged-holding (mergeParts a r) rs (merge-straight-where (a .bbox) (r .bbox) s (t .0)) (t .1) in
-      let merge = merge-holding (a .bbox) (r .bbox) s (t .0) in
-      (λ p. n .0 (merge (inl p)), (λ p. n .0 (merge (inr p)), n .1))
-
   -- What runs low to high in x and is contained in a record's box, the fold's box contains.
   pub fold-holding : (rs : List GeoStatistics) → All (λ r. WhereBox StraightBox (r .bbox)) rs → fold rs .number ≡ 0
-      → All (λ r. Holding k (r .bbox) → Holding k (fold rs .rec .bbox)) rs
-  fold-holding [] s e = tt
-  fold-holding (r ∷ rs) s e =
-      let f = fits-of-fold r rs (rw (fold-first r rs) at e) in
-      let n = merged-holding r rs (s .0) (s .1) in
-      subst (λ (g : Folded). All (λ q. Holding k (q .bbox) → Holding k (g .rec .bbox)) (r ∷ rs)) (sym (fold-first r rs ∙ fold-of-fits r rs f)) (n .0, n .1)
+      → Some (λ r. Holding k (r .bbox)) rs → Holding k (fold rs .rec .bbox)
+  unfolding mergeParts
+  fold-holding =
+      fold-keeps (λ r. WhereBox StraightBox (r .bbox)) (λ r. Holding k (r .bbox)) (λ a b. merge-straight-where (a .bbox) (b .bbox)) (λ a b. merge-holding (a .bbox) (b .bbox))

@@ -44,7 +44,7 @@ merge-no-less-right Bbox.Missing b D E = no-less-refl b
 merge-no-less-right (Bbox.Known a) Bbox.Missing D E = tt
 merge-no-less-right (Bbox.Known a) (Bbox.Known b) D E = boxes.merge-no-less-right D E
 
-merge-doubles : (a b : Bbox) → DoublesWhereKnown a → DoublesWhereKnown b → DoublesWhereKnown (mergeBboxes a b)
+pub merge-doubles : (a b : Bbox) → DoublesWhereKnown a → DoublesWhereKnown b → DoublesWhereKnown (mergeBboxes a b)
 unfolding mergeBboxes
 merge-doubles Bbox.Missing b D E = E
 merge-doubles (Bbox.Known a) Bbox.Missing D E = D

@@ -7,9 +7,9 @@ use native.Mathlib.Omega.{arith}
 use lib.Dec.{eqb}
 use borrow.Author.Tests.{eqb-true, eqb-false, eq-eqb, ne-eqb, lt-ltb, le-ltb}
 use Rattle.sedona_geometry.proofs.Order.{fails}
-use Rattle.sedona_expr.specs.SpatialFilter.{Column, Filter, intersects, covers, and, or, literalFalse, unknown, answer}
+use Rattle.sedona_expr.specs.SpatialFilter.{Column, Filter, intersects, covers, hasZ, and, or, literalFalse, unknown, answer}
 use Rattle.sedona_expr.specs.Tables.{Table, word, kind, isPair, isLeaf, leafOf, pairOf, areBelow, columnOf, literal, treeOf, treesBelow, treeAt}
-use Rattle.sedona_expr.specs.declared.statistics.Bbox.{Bbox}
+use Rattle.sedona_expr.specs.declared.tables.ColumnRecord.{ColumnRecord}
 
 pub trees-below : (t : Table) (n m : ℕ) → m < n → treesBelow t n m ≡ treeAt t m
 unfolding treeAt
@@ -55,19 +55,19 @@ unfolding pairOf
 pair-or k a b e = rw (ne-eqb k 3 e)
 
 -- a pair is no leaf
-pair-no-leaf : (k : ℕ) → isPair k ≡ true → isLeaf k ≡ false
+pair-no-leaf : (k : ℕ) → isPair k ≡ true → (isLeaf k ≡ false) × (eqb k 2 ≡ false)
 pair-no-leaf k = go (eqb k 3) (eqb k 4) refl refl
   where
-    go : (a b : Bool) → eqb k 3 ≡ a → eqb k 4 ≡ b → (a || b) ≡ true → isLeaf k ≡ false
-    go true b e f h = rw (eqb-true k 3 e)
-    go false true e f h = rw (eqb-true k 4 f)
+    go : (a b : Bool) → eqb k 3 ≡ a → eqb k 4 ≡ b → (a || b) ≡ true → (isLeaf k ≡ false) × (eqb k 2 ≡ false)
+    go true b e f h = rw (eqb-true k 3 e) (refl, refl)
+    go false true e f h = rw (eqb-true k 4 f) (refl, refl)
     go false false e f h = absurd (fails (sym h) tt)
 
 pair-tree : (t : Table) (n k l r : ℕ) → k ≡ kind (t .nodes) n → l ≡ word (t .nodes) n 1 → r ≡ word (t .nodes) n 2 → isPair k ≡ true → l < n → r < n
     → treeAt t n ≡ pairOf k (and (treeAt t l) (treeAt t r)) (or (treeAt t l) (treeAt t r))
 unfolding treeAt treeOf areBelow
 pair-tree t n k l r is left right h a b =
-    rw (← is, pair-no-leaf k h, h, ← left, ← right, lt-ltb l n a, lt-ltb r n b, trees-below t n l a, trees-below t n r b)
+    rw (← is, pair-no-leaf k h .0, pair-no-leaf k h .1, h, ← left, ← right, lt-ltb l n a, lt-ltb r n b, trees-below t n l a, trees-below t n r b)
 
 -- a child that is not below
 pub broken-left : (ns : List ℕ) (n l : ℕ) → l ≡ word ns n 1 → n ≤ l → areBelow ns n ≡ false
@@ -79,7 +79,7 @@ unfolding areBelow
 broken-right ns n l r e f k h = rw (← e, ← f, lt-ltb l n k, le-ltb r n h)
 
 -- a LiteralFalse, else an Unknown
-pub answer-other : (own : Column → Bbox) (b : Bool) → answer own (cond b literalFalse unknown) ≡ not b
+pub answer-other : (own : Column → ColumnRecord) (b : Bool) → answer own (cond b literalFalse unknown) ≡ not b
 answer-other own true = refl
 answer-other own false = refl
 
@@ -97,8 +97,12 @@ module _ {B : Type 0} (say : Filter → B) (t : Table) (n k l r : ℕ) (is : k �
 
   pub says-broken : isPair k ≡ true → areBelow (t .nodes) n ≡ false → say (treeAt t n) ≡ say unknown
   unfolding treeAt treeOf
-  says-broken h a = rw (← is, pair-no-leaf k h, h, a)
+  says-broken h a = rw (← is, pair-no-leaf k h .0, pair-no-leaf k h .1, h, a)
 
-  pub says-other : isLeaf k ≡ false → isPair k ≡ false → say (treeAt t n) ≡ say (cond (eqb k 5) literalFalse unknown)
+  pub says-has-z : k ≡ 2 → say (treeAt t n) ≡ say (hasZ (columnOf (t .nodes) n))
+  unfolding treeAt treeOf
+  says-has-z h = rw (← is, h)
+
+  pub says-other : isLeaf k ≡ false → isPair k ≡ false → say (treeAt t n) ≡ say (cond (eqb k 2) (hasZ (columnOf (t .nodes) n)) (cond (eqb k 5) literalFalse unknown))
   unfolding treeAt treeOf
   says-other h a = rw (← is, h, a)

@@ -1,10 +1,11 @@
--- The hypotheses of demand 3 can be met, for each call and for each half: And of (Or of an Intersects of column 0 and a LiteralFalse) and of a
--- Covers of column 1; a row that is a point in both, and in a third column, for which no record is lent; and for column 0 three records, one of
--- them without a box and one wrapped. Assumes nothing.
-use mathlib.Core.Path.{_≡_, refl}
+-- The hypotheses of demand 3 can be met, for each call and for each half: And of (Or of an Intersects of column 0 and a LiteralFalse), of a Covers
+-- of column 1 and of (Or of a HasZ of column 0, which holds, and one of column 1, which does not); a row that is a point in both, and in a third
+-- column, for which no record is lent; for column 0 three records, one of them without a box and types and one wrapped; and for column 1 two
+-- records without types. Assumes nothing.
+use mathlib.Core.Path.{_≡_, refl, sym}
 use mathlib.Core.Logic.{inl, inr}
 use mathlib.Core.List.{List, [], _∷_}
-use Prim.Native.Nat.{ℕ, zero, suc, _<_}
+use Prim.Native.Nat.{ℕ, zero, suc, _<_, _^_}
 use native.Mathlib.Omega.{arith}
 use lib.IntN.{pos}
 use lib.Ieee.{Float, binary64, fits, add, sub, div, neg, lt, le, eq, isNan, round, ofInt}
@@ -12,14 +13,21 @@ use Rattle.sedona_geometry.specs.Float.{minNum, maxNum, abs}
 use Rattle.sedona_geometry.specs.Interval as interval
 use Rattle.sedona_geometry.specs.WraparoundInterval as wraparound
 use Rattle.sedona_geometry.specs.BoundingBox as boundingBox
+use Rattle.sedona_geometry.specs.Types.{fromBits}
+use Rattle.sedona_geometry.specs.declared.bounding_box.Dimension as Dimension
+use Rattle.sedona_geometry.specs.declared.bounding_box.Dimension.{Dimension}
 use Rattle.sedona_geometry.specs.declared.bounding_box.BoundingBox.{BoundingBox}
+use Rattle.sedona_geometry.proofs.Order.{fails}
 use Rattle.sedona_expr.specs.Statistics as statistics
+use Rattle.sedona_expr.specs.SpatialFilter.{isZ}
 use Rattle.sedona_expr.specs.Tables as tables
 use Rattle.sedona_expr.specs.Refusals as refusals
-use Rattle.sedona_expr.specs.Tables.{Boxes, Table, Lookup, byPosition, byName}
-use Rattle.sedona_expr.specs.Demand.{Row, WhereBox, Folds, Wanted, Each, isPoint, Numbers, Pointed, MayMatch, Reaches}
+use Rattle.sedona_expr.specs.Tables.{Records, Table, Lookup, byPosition, byName}
+use Rattle.sedona_expr.specs.Demand.{Row, WhereBox, Leaf, Beside, Folds, Wanted, Each, isPoint, Numbers, Pointed, MayMatch, Reaches}
 use Rattle.sedona_expr.specs.declared.statistics.Bbox as Bbox
 use Rattle.sedona_expr.specs.declared.statistics.Bbox.{Bbox}
+use Rattle.sedona_expr.specs.declared.statistics.GeometryTypes as GeometryTypes
+use Rattle.sedona_expr.specs.declared.statistics.GeometryTypes.{GeometryTypes}
 use Rattle.sedona_expr.specs.declared.statistics.GeoStatistics.{GeoStatistics}
 use Rattle.sedona_expr.proofs.Instances.{reading}
 use Rattle.sedona_expr.proofs.Searches.{once-differ}
@@ -31,6 +39,14 @@ plus n = ofInt binary64 (pos n)
 -- A box of x and y.
 abbrev flat : Float → Float → Float → Float → BoundingBox
 flat a b c d = boundingBox.xy (wraparound.new a b) (interval.new c d)
+
+-- A box of x, y and z.
+abbrev deep : Float → Float → Float → Float → Float → Float → BoundingBox
+deep a b c d e f = boundingBox.xyzm (wraparound.new a b) (interval.new c d) (Dimension.Known (interval.new e f)) Dimension.Missing
+
+-- A known set of one type.
+abbrev only : ℕ → GeometryTypes
+only n = GeometryTypes.Known (fromBits (2 ^ n))
 
 -- ---- what is lent
 
@@ -46,17 +62,30 @@ nodes =
     ∷ 1 ∷ 1 ∷ 9 ∷ 1
     -- 4: And of 2 and 3
     ∷ 3 ∷ 2 ∷ 3 ∷ 0
+    -- 5: HasZ, index 0, name 7
+    ∷ 2 ∷ 0 ∷ 7 ∷ 0
+    -- 6: HasZ, index 1, name 9
+    ∷ 2 ∷ 1 ∷ 9 ∷ 0
+    -- 7: Or of 5 and 6
+    ∷ 4 ∷ 5 ∷ 6 ∷ 0
+    -- 8: And of 4 and 7
+    ∷ 3 ∷ 4 ∷ 7 ∷ 0
     ∷ []
 
--- The doubles of a box of x and y.
-abbrev ends : Float → Float → Float → Float → List Float → List Float
-ends a b c d ds = a ∷ b ∷ c ∷ d ∷ plus 0 ∷ plus 0 ∷ plus 0 ∷ plus 0 ∷ ds
+-- The doubles of a box of x, y and z, which may be unread.
+abbrev ends : Float → Float → Float → Float → Float → Float → List Float → List Float
+ends a b c d e f ds = a ∷ b ∷ c ∷ d ∷ e ∷ f ∷ plus 0 ∷ plus 0 ∷ ds
 
 abbrev t : Table
-t = tables.table nodes (ends (plus 0) (plus 10) (plus 0) (plus 10) (ends (plus 4) (plus 4) (plus 5) (plus 5) [])) (1 ∷ 1 ∷ [])
+t =
+    tables.table nodes (ends (plus 0) (plus 10) (plus 0) (plus 10) (plus 0) (plus 0) (ends (plus 4) (plus 4) (plus 5) (plus 5) (plus 0) (plus 0) []))
+    (1 ∷ 1 ∷ [])
 
-abbrev r : Boxes
-r = tables.boxes (ends (plus 2) (neg (plus 170)) (plus 1) (plus 9) (ends (plus 3) (plus 6) (plus 5) (plus 8) [])) (1 ∷ 1 ∷ [])
+abbrev r : Records
+r =
+    tables.records
+    (ends (plus 2) (neg (plus 170)) (plus 1) (plus 9) (plus 0) (plus 3) (ends (plus 3) (plus 6) (plus 5) (plus 8) (plus 0) (plus 0) []))
+    (3 ∷ 1 ∷ []) (0x202 ∷ 0 ∷ []) (1 ∷ 0 ∷ [])
 
 -- By name.
 abbrev lent : List ℕ
@@ -68,74 +97,81 @@ names = 7 ∷ 9 ∷ 4 ∷ []
 
 -- ---- the row and the lists
 
+-- A point with z, and a point without.
 abbrev row : Row
-row zero = Bbox.Known (flat (plus 2) (plus 2) (plus 3) (plus 3))
-row (suc n) = Bbox.Known (flat (plus 4) (plus 4) (plus 5) (plus 5))
+row zero = record { bbox = Bbox.Known (deep (plus 2) (plus 2) (plus 3) (plus 3) (plus 2) (plus 2)); bit = 9 }
+row (suc n) = record { bbox = Bbox.Known (flat (plus 4) (plus 4) (plus 5) (plus 5)); bit = 1 }
 
 abbrev lists : ℕ → List GeoStatistics
 lists zero =
-    reading (row 0) (pos 1)
-    ∷ reading Bbox.Missing (pos 2)
-    ∷ reading (Bbox.Known (flat (plus 170) (neg (plus 170)) (plus 1) (plus 9))) (pos 3)
+    reading (row 0 .bbox) (only 9) (pos 1)
+    ∷ reading Bbox.Missing GeometryTypes.Missing (pos 2)
+    ∷ reading (Bbox.Known (deep (plus 170) (neg (plus 170)) (plus 1) (plus 9) (plus 0) (plus 3))) (only 1) (pos 3)
     ∷ []
-lists (suc n) = reading (Bbox.Known (flat (plus 3) (plus 6) (plus 6) (plus 8))) (pos 4) ∷ reading (row 1) (pos 5) ∷ []
+lists (suc n) =
+    reading (Bbox.Known (flat (plus 3) (plus 6) (plus 6) (plus 8))) GeometryTypes.Missing (pos 4)
+    ∷ reading (row 1 .bbox) GeometryTypes.Missing (pos 5)
+    ∷ []
 
--- ---- each column's list
-folds-0 : Folds (lists 0) (row 0) (tables.boxAt r 0)
-unfolding fits add sub div neg lt le eq isNan round ofInt minNum maxNum abs interval.intersectsInterval interval.isEmpty interval.mergeInterval wraparound.isWraparound wraparound.split wraparound.mid wraparound.fromPieces wraparound.mergeWrapped wraparound.nearerLeft wraparound.mergePlain wraparound.mergeNonEmpty wraparound.mergeInterval boundingBox.joinKnown boundingBox.mergeBox statistics.leaves statistics.sumLeaves statistics.totalsOverflow statistics.countsOverflow statistics.mergeBboxes statistics.mergeParts statistics.mergeValue statistics.addTotals statistics.step statistics.foldFrom tables.boxWith tables.boxAt
-folds-0 = record {
+-- ---- each column's list, for any of its leaves
+folds-0 : (f : Leaf) → Beside f (row 0) (only 9) → Folds f (lists 0) (row 0) (tables.recordAt r 0)
+unfolding fits add sub div neg lt le eq isNan round ofInt minNum maxNum abs interval.intersectsInterval interval.isEmpty interval.mergeInterval wraparound.isWraparound wraparound.split wraparound.mid wraparound.fromPieces wraparound.mergeWrapped wraparound.nearerLeft wraparound.mergePlain wraparound.mergeNonEmpty wraparound.mergeInterval boundingBox.joinKnown boundingBox.mergeBox statistics.leaves statistics.sumLeaves statistics.totalsOverflow statistics.countsOverflow statistics.mergeBboxes statistics.mergeTypes statistics.mergeParts statistics.mergeValue statistics.addTotals statistics.step statistics.foldFrom tables.boxWith tables.boxAt tables.typesAt
+folds-0 f h = record {
   doubles = (
-    record { x = record { lo = tt; hi = tt }; y = record { lo = tt; hi = tt }; z = tt; m = tt },
-    (tt, (record { x = record { lo = tt; hi = tt }; y = record { lo = tt; hi = tt }; z = tt; m = tt }, tt)),
+    record { x = record { lo = tt; hi = tt }; y = record { lo = tt; hi = tt }; z = record { lo = tt; hi = tt }; m = tt },
+    (tt, (record { x = record { lo = tt; hi = tt }; y = record { lo = tt; hi = tt }; z = record { lo = tt; hi = tt }; m = tt }, tt)),
   );
   has = tt;
-  among = inl refl;
+  among = inl (refl, h);
   fit = refl;
   folded = refl;
 }
 
-folds-1 : Folds (lists 1) (row 1) (tables.boxAt r 1)
-unfolding fits add sub div neg lt le eq isNan round ofInt minNum maxNum abs interval.intersectsInterval interval.isEmpty interval.mergeInterval wraparound.isWraparound wraparound.split wraparound.mid wraparound.fromPieces wraparound.mergeWrapped wraparound.nearerLeft wraparound.mergePlain wraparound.mergeNonEmpty wraparound.mergeInterval boundingBox.joinKnown boundingBox.mergeBox statistics.leaves statistics.sumLeaves statistics.totalsOverflow statistics.countsOverflow statistics.mergeBboxes statistics.mergeParts statistics.mergeValue statistics.addTotals statistics.step statistics.foldFrom tables.boxWith tables.boxAt
-folds-1 = record {
+folds-1 : (f : Leaf) → Beside f (row 1) GeometryTypes.Missing → Folds f (lists 1) (row 1) (tables.recordAt r 1)
+unfolding fits add sub div neg lt le eq isNan round ofInt minNum maxNum abs interval.intersectsInterval interval.isEmpty interval.mergeInterval wraparound.isWraparound wraparound.split wraparound.mid wraparound.fromPieces wraparound.mergeWrapped wraparound.nearerLeft wraparound.mergePlain wraparound.mergeNonEmpty wraparound.mergeInterval boundingBox.joinKnown boundingBox.mergeBox statistics.leaves statistics.sumLeaves statistics.totalsOverflow statistics.countsOverflow statistics.mergeBboxes statistics.mergeTypes statistics.mergeParts statistics.mergeValue statistics.addTotals statistics.step statistics.foldFrom tables.boxWith tables.boxAt tables.typesAt
+folds-1 f h = record {
   doubles = (
     record { x = record { lo = tt; hi = tt }; y = record { lo = tt; hi = tt }; z = tt; m = tt },
     (record { x = record { lo = tt; hi = tt }; y = record { lo = tt; hi = tt }; z = tt; m = tt }, tt),
   );
   has = tt;
-  among = inr (inl refl);
+  among = inr (inl (refl, h));
   fit = refl;
   folded = refl;
 }
 
 -- ---- the row
-row-doubles : (i : ℕ) → WhereBox boundingBox.Doubles (row i)
+row-doubles : (i : ℕ) → WhereBox boundingBox.Doubles (row i .bbox)
 unfolding fits round ofInt
-row-doubles zero = record { x = record { lo = tt; hi = tt }; y = record { lo = tt; hi = tt }; z = tt; m = tt }
+row-doubles zero = record { x = record { lo = tt; hi = tt }; y = record { lo = tt; hi = tt }; z = record { lo = tt; hi = tt }; m = tt }
 row-doubles (suc i) = record { x = record { lo = tt; hi = tt }; y = record { lo = tt; hi = tt }; z = tt; m = tt }
 
-row-point : (i : ℕ) → WhereBox (Each isPoint) (row i)
+row-point : (i : ℕ) → WhereBox (Each isPoint) (row i .bbox)
 unfolding eq isNan round ofInt
-row-point zero = record { x = (refl, refl); y = (refl, refl); z = tt; m = tt }
+row-point zero = record { x = (refl, refl); y = (refl, refl); z = (refl, refl); m = tt }
 row-point (suc i) = record { x = (refl, refl); y = (refl, refl); z = tt; m = tt }
 
 -- ---- the hypotheses, for any call that finds the two columns
 module _ (l : Lookup) (wellFormed : refusals.refusal l t r ≡ 0) (first : tables.place l (tables.column 0 7) ≡ 0) (second : tables.place l (tables.column 1 9) ≡ 1) where
   wanted : Wanted l t r row lists
-  unfolding fits sub neg lt le eq isNan round ofInt interval.intersectsValue interval.containsInterval interval.isEmpty wraparound.isWraparound wraparound.split wraparound.intersectsValue wraparound.containsInterval boundingBox.testKnown boundingBox.contains tables.boxWith tables.boxAt tables.orEmpty tables.leafOf tables.pairOf tables.areBelow tables.treeOf tables.treeAt
+  unfolding isZ fits sub neg lt le eq isNan round ofInt interval.intersectsValue interval.containsInterval interval.isEmpty wraparound.isWraparound wraparound.split wraparound.intersectsValue wraparound.containsInterval boundingBox.testKnown boundingBox.contains tables.boxWith tables.boxAt tables.orEmpty tables.leafOf tables.pairOf tables.areBelow tables.treeOf tables.treeAt
   wanted = record {
     wellFormed = wellFormed;
-    exist = rw (first, second) ((omega arith, tt), omega arith);
+    exist = rw (first, second) (((omega arith, tt), omega arith), (omega arith, omega arith));
     holds = rw (first, second) (
-      inl (record {
-        x = record { number = plus 2; double = tt; left = record { holds = refl }; right = record { holds = refl } };
-        y = record { number = plus 3; double = tt; left = record { holds = refl }; right = record { holds = refl } };
-        z = tt;
-        m = tt;
-      }),
-      refl,
+      (
+        inl (record {
+          x = record { number = plus 2; double = tt; left = record { holds = refl }; right = record { holds = refl } };
+          y = record { number = plus 3; double = tt; left = record { holds = refl }; right = record { holds = refl } };
+          z = tt;
+          m = tt;
+        }),
+        refl,
+      ),
+      inl (record { z = refl; type = refl }),
     );
-    folds = rw (first, second) ((folds-0, tt), folds-1);
-    under = rw second ((tt, tt), (((refl, refl), ((refl, refl), tt)), refl));
+    folds = rw (first, second) (((folds-0 _ tt, tt), folds-1 _ tt), (folds-0 _ (λ h. refl), folds-1 _ (λ h. fails (sym (h .type)) tt)));
+    under = rw second (((tt, tt), (((refl, refl), ((refl, refl), tt)), refl)), (tt, tt));
   }
 
   pointed : Numbers l names → Pointed l t r row names
@@ -146,11 +182,11 @@ module _ (l : Lookup) (wellFormed : refusals.refusal l t r ≡ 0) (first : table
     literals = (tt, (tt, (tt, (tt, (tt, (tt, (tt, (tt, (tt, (tt, (tt, (tt, (tt, (tt, (tt, (tt, tt))))))))))))))));
     doubles = λ i h. row-doubles i;
     point = λ i h. row-point i;
-    ownNames = rw (first, second) ((refl, tt), refl);
+    ownNames = rw (first, second) (((refl, tt), refl), (tt, tt));
     differ = once-differ names refl;
     lowToHigh = (
-      (record { x = refl; y = refl; z = tt; m = tt }, tt),
-      record { x = refl; y = refl; z = tt; m = tt },
+      ((record { x = refl; y = refl; z = tt; m = tt }, tt), record { x = refl; y = refl; z = tt; m = tt }),
+      (tt, tt),
     );
   }
 
@@ -159,7 +195,7 @@ module _ (l : Lookup) (wellFormed : refusals.refusal l t r ≡ 0) (first : table
 
 -- ---- each call
 pub by-position : MayMatch byPosition t r × Reaches t row names
-unfolding refusals.orElse refusals.wordsRefusal refusals.goodFlag refusals.boxesRefusal refusals.namesRefusal refusals.twiceRefusal refusals.recordsRefusal tables.areBelow refusals.pairRefusal refusals.isLent refusals.leafRefusal refusals.nodeRefusal refusals.usesBy refusals.usesRefusal refusals.tableRefusal refusals.treeRefusal refusals.refusal tables.place
+unfolding refusals.orElse refusals.wordsRefusal refusals.goodFlag refusals.boxesRefusal refusals.typesRefusal refusals.namesRefusal refusals.twiceRefusal refusals.recordsRefusal tables.areBelow refusals.pairRefusal refusals.isLent refusals.columnRefusal refusals.leafRefusal refusals.nodeRefusal refusals.usesBy refusals.usesRefusal refusals.tableRefusal refusals.treeRefusal refusals.refusal tables.place
 by-position = both-halves byPosition refl refl refl tt
 
 lent-numbers : Numbers (byName lent) names
@@ -168,5 +204,5 @@ lent-numbers (suc zero) h = refl
 lent-numbers (suc (suc i)) h = absurd (omega arith)
 
 pub by-name : MayMatch (byName lent) t r × Reaches t row names
-unfolding refusals.orElse refusals.wordsRefusal refusals.goodFlag refusals.boxesRefusal tables.placeOf refusals.hasTwice refusals.namesRefusal refusals.twiceRefusal refusals.recordsRefusal tables.areBelow refusals.pairRefusal refusals.isLent refusals.leafRefusal refusals.nodeRefusal refusals.usesBy refusals.usesRefusal refusals.tableRefusal refusals.treeRefusal refusals.refusal tables.place
+unfolding refusals.orElse refusals.wordsRefusal refusals.goodFlag refusals.boxesRefusal refusals.typesRefusal tables.placeOf refusals.hasTwice refusals.namesRefusal refusals.twiceRefusal refusals.recordsRefusal tables.areBelow refusals.pairRefusal refusals.isLent refusals.columnRefusal refusals.leafRefusal refusals.nodeRefusal refusals.usesBy refusals.usesRefusal refusals.tableRefusal refusals.treeRefusal refusals.refusal tables.place
 by-name = both-halves (byName lent) refl refl refl lent-numbers

@@ -5,7 +5,7 @@ use lib.Dec.{eqb}
 use Rattle.sedona_geometry.specs.BoundingBox.{numbered}
 use Rattle.sedona_geometry.specs.declared.bounding_box.NumberedBox.{NumberedBox}
 use Rattle.sedona_expr.specs.SpatialFilter.{answer, boxFor}
-use Rattle.sedona_expr.specs.Tables.{Boxes, Table, root, Lookup, recordOf}
+use Rattle.sedona_expr.specs.Tables.{Records, Table, root, Lookup, recordOf}
 use Rattle.sedona_expr.specs.Refusals.{refusal, boxRefusal}
 use Rattle.sedona_expr.specs.declared.spatial_filter.Evaluation as Evaluation
 use Rattle.sedona_expr.specs.declared.spatial_filter.Evaluation.{Evaluation}
@@ -15,7 +15,7 @@ unfoldable pub outcome : ℕ → Bool → Evaluation
 outcome n b = cond (eqb n 0) (cond b Evaluation.MayMatch Evaluation.CannotMatch) (Evaluation.Refused n)
 
 -- `evaluate_by_position` and `evaluate_by_name`.
-abbrev pub evaluate : Lookup → Table → Boxes → Evaluation
+abbrev pub evaluate : Lookup → Table → Records → Evaluation
 evaluate l t r = outcome (refusal l t r) (answer (recordOf l r) (root t))
 
 -- `filter_bbox`, for the column of a name.

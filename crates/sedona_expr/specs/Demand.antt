@@ -12,27 +12,36 @@ use lib.Ieee.{Float, binary64, fits, le, eq}
 use Rattle.sedona_geometry.specs.Interval as interval
 use Rattle.sedona_geometry.specs.WraparoundInterval as wraparound
 use Rattle.sedona_geometry.specs.BoundingBox as boundingBox
+use Rattle.sedona_geometry.specs.Types as types
 use Rattle.sedona_geometry.specs.declared.interval.Interval.{Interval}
 use Rattle.sedona_geometry.specs.declared.bounding_box.Dimension.{Dimension}
 use Rattle.sedona_geometry.specs.declared.bounding_box.Dimension as Dimension
 use Rattle.sedona_geometry.specs.declared.bounding_box.BoundingBox.{BoundingBox}
 use Rattle.sedona_expr.specs.Statistics.{All, fold}
 use Rattle.sedona_expr.specs.Statistics as statistics
-use Rattle.sedona_expr.specs.SpatialFilter.{Column, Filter, intersects, covers, and, or, literalFalse, unknown}
-use Rattle.sedona_expr.specs.Tables.{Boxes, boxAt, Table, root, Lookup, byPosition, byName, place}
+use Rattle.sedona_expr.specs.SpatialFilter.{Column, Filter, intersects, covers, hasZ, and, or, literalFalse, unknown, isZ}
+use Rattle.sedona_expr.specs.Tables.{Records, recordAt, Table, root, Lookup, byPosition, byName, place}
 use Rattle.sedona_expr.specs.Refusals.{refusal}
 use Rattle.sedona_expr.specs.Calls.{evaluate, filterBbox}
 use Rattle.sedona_expr.specs.declared.statistics.Bbox as Bbox
 use Rattle.sedona_expr.specs.declared.statistics.Bbox.{Bbox}
+use Rattle.sedona_expr.specs.declared.statistics.GeometryTypes as GeometryTypes
+use Rattle.sedona_expr.specs.declared.statistics.GeometryTypes.{GeometryTypes}
 use Rattle.sedona_expr.specs.declared.statistics.GeoStatistics.{GeoStatistics}
+use Rattle.sedona_expr.specs.declared.tables.ColumnRecord.{ColumnRecord}
 use Rattle.sedona_expr.specs.declared.spatial_filter.Evaluation as Evaluation
 use Rattle.sedona_expr.specs.declared.spatial_filter.Evaluation.{Evaluation}
 
 -- ---- rows and filters
 
--- "A row gives each named column a box, its own box there; any other column has a box of it or none."
+-- "A row gives each named column a box, its own box there; any other column has a box of it or none." And it gives it the bit of its type,
+-- 0 to 31.
+pub record Cell : Type 0 where
+  pub bbox : Bbox
+  pub bit : ℕ
+
 abbrev pub Row : Type 0
-Row = ℕ → Bbox
+Row = ℕ → Cell
 
 -- What is said of a box, where there is one. ("A column where the row has no box is left out.")
 abbrev pub WhereBox : (BoundingBox → Type 0) → Bbox → Type 0
@@ -44,24 +53,54 @@ abbrev pub HasBox : (BoundingBox → Type 0) → Bbox → Type 0
 HasBox P Bbox.Missing = ⊥
 HasBox P (Bbox.Known b) = P b
 
+-- Of an interval, where it is known.
+abbrev pub WhereKnown : (Interval → Type 0) → Dimension → Type 0
+WhereKnown P Dimension.Missing = Unit {0}
+WhereKnown P (Dimension.Known i) = P i
+
+abbrev pub lowToHigh : Interval → Bool
+lowToHigh i = le (i .lo) (i .hi)
+
+-- "z missing or running low to high"
+abbrev pub MissingOrRising : BoundingBox → Type 0
+MissingOrRising b = WhereKnown (λ i. lowToHigh i ≡ true) (b .z)
+
+-- "HasZ holds of a row with a box, a Z type, and z missing or running low to high"
+pub record HoldsZ (own : Cell) : Type 0 where
+  pub z : HasBox MissingOrRising (own .bbox)
+  pub type : isZ (own .bit) ≡ true
+
 -- "any row of which it holds": Intersects where row box and literal have a common number in x, y, and in z and m where both have them; Covers
--- where `contains` is true of row box and literal; And both, Or either, Unknown always, LiteralFalse never.
-abbrev pub Holds : (Column → Bbox) → Filter → Type 0
-Holds own (intersects c k) = HasBox (λ b. boundingBox.Common b k) (own c)
-Holds own (covers c k) = HasBox (λ b. boundingBox.contains b k ≡ true) (own c)
+-- where `contains` is true of row box and literal; HasZ as said above; And both, Or either, Unknown always, LiteralFalse never.
+abbrev pub Holds : (Column → Cell) → Filter → Type 0
+Holds own (intersects c k) = HasBox (λ b. boundingBox.Common b k) (own c .bbox)
+Holds own (covers c k) = HasBox (λ b. boundingBox.contains b k ≡ true) (own c .bbox)
+Holds own (hasZ c) = HoldsZ (own c)
 Holds own (and f g) = Holds own f × Holds own g
 Holds own (or f g) = Holds own f ⊎ Holds own g
 Holds own literalFalse = ⊥
 Holds own unknown = Unit {0}
 
--- Of every leaf: whether it is a Covers, its column and its literal.
-abbrev pub EachLeaf : (Bool → Column → BoundingBox → Type 0) → Filter → Type 0
-EachLeaf P (intersects c k) = P false c k
-EachLeaf P (covers c k) = P true c k
+-- What a leaf is, but for its column.
+pub data Leaf : Type 0 where
+  anIntersects aCovers : BoundingBox → Leaf
+  aHasZ : Leaf
+
+-- Of every leaf and its column.
+abbrev pub EachLeaf : (Leaf → Column → Type 0) → Filter → Type 0
+EachLeaf P (intersects c k) = P (anIntersects k) c
+EachLeaf P (covers c k) = P (aCovers k) c
+EachLeaf P (hasZ c) = P aHasZ c
 EachLeaf P (and f g) = EachLeaf P f × EachLeaf P g
 EachLeaf P (or f g) = EachLeaf P f × EachLeaf P g
 EachLeaf P literalFalse = Unit {0}
 EachLeaf P unknown = Unit {0}
+
+-- Of a leaf's literal. A HasZ has none.
+abbrev pub OfLiteral : (BoundingBox → Type 0) → Leaf → Type 0
+OfLiteral P (anIntersects k) = P k
+OfLiteral P (aCovers k) = P k
+OfLiteral P aHasZ = Unit {0}
 
 -- ---- lists of records
 
@@ -70,46 +109,55 @@ abbrev pub Some : {A : Type 0} → (A → Type 0) → List A → Type 0
 Some P [] = ⊥
 Some P (x ∷ xs) = P x ⊎ Some P xs
 
+-- "a known type set with its type's bit"
+abbrev pub HasBit : ℕ → GeometryTypes → Type 0
+HasBit k GeometryTypes.Missing = ⊥
+HasBit k (GeometryTypes.Known s) = types.has s k ≡ true
+
+-- What a record of the row has beside the row's box: "in a column where a HasZ leaf holds of the row, demand 3 asks this record of the list and
+-- not the box alone".
+abbrev pub Beside : Leaf → Cell → GeometryTypes → Type 0
+Beside (anIntersects k) own t = Unit {0}
+Beside (aCovers k) own t = Unit {0}
+Beside aHasZ own t = HoldsZ own → HasBit (own .bit) t
+
+-- A record as a leaf sees it.
+abbrev pub seen : GeoStatistics → ColumnRecord
+seen s = record { bbox = s .bbox; types = s .«geometry_types» }
+
 -- "Each named column has a list of its own, one record or more, repeats and missing boxes allowed."
-pub record Folds (rs : List GeoStatistics) (own lent : Bbox) : Type 0 where
+pub record Folds (f : Leaf) (rs : List GeoStatistics) (own : Cell) (lent : ColumnRecord) : Type 0 where
   -- Their ends are doubles.
   pub doubles : All (λ s. statistics.DoublesWhereKnown (s .bbox)) rs
   -- "the row's own box is among them"; it has one.
-  pub has : HasBox (λ b. Unit {0}) own
-  pub among : Some (λ s. s .bbox ≡ own) rs
+  pub has : HasBox (λ b. Unit {0}) (own .bbox)
+  pub among : Some (λ s. (s .bbox ≡ own .bbox) × Beside f own (s .«geometry_types»)) rs
   -- "totals fit at every merge step": no step meets number 3
   pub fit : fold rs .number ≡ 0
-  -- "the record of each named column being its fold"
-  pub folded : lent ≡ fold rs .rec .bbox
-
-abbrev pub lowToHigh : Interval → Bool
-lowToHigh i = le (i .lo) (i .hi)
+  -- "the record of each named column being its fold", its box and its types
+  pub folded : lent ≡ seen (fold rs .rec)
 
 -- "under a Covers no record's x wraps or has NaN and the literal's x runs low to high"
-abbrev pub UnderCovers : Bool → List GeoStatistics → BoundingBox → Type 0
-UnderCovers false rs k = Unit {0}
-UnderCovers true rs k =
+abbrev pub UnderCovers : Leaf → List GeoStatistics → Type 0
+UnderCovers (anIntersects k) rs = Unit {0}
+UnderCovers aHasZ rs = Unit {0}
+UnderCovers (aCovers k) rs =
     All (λ s. WhereBox (λ b. (wraparound.isWraparound (b .x) ≡ false) × (interval.hasNan (b .x .inner) ≡ false)) (s .bbox)) rs × (lowToHigh (k .x .inner) ≡ true)
 
 -- ---- the hypotheses
 
 -- Of the first half. (The column of a leaf is `place l c`.)
-pub record Wanted (l : Lookup) (t : Table) (r : Boxes) (row : Row) (lists : ℕ → List GeoStatistics) : Type 0 where
+pub record Wanted (l : Lookup) (t : Table) (r : Records) (row : Row) (lists : ℕ → List GeoStatistics) : Type 0 where
   -- "well-formed tables": the lent inputs fit none of the numbers from 4 up
   pub wellFormed : refusal l t r ≡ 0
   -- "its named columns all existing": a record is lent for each
-  pub exist : EachLeaf (λ isCovers c k. place l c < length (r .flags)) (root t)
+  pub exist : EachLeaf (λ f c. place l c < length (r .boxes .flags)) (root t)
   -- "any row of which it holds"
   pub holds : Holds (λ c. row (place l c)) (root t)
   -- "Whatever records each named column's list has .., if the row's own box is among them, totals fit at every merge step"
-  pub folds : EachLeaf (λ isCovers c k. Folds (lists (place l c)) (row (place l c)) (boxAt r (place l c))) (root t)
+  pub folds : EachLeaf (λ f c. Folds f (lists (place l c)) (row (place l c)) (recordAt r (place l c))) (root t)
   -- "and under a Covers no record's x wraps or has NaN and the literal's x runs low to high"
-  pub under : EachLeaf (λ isCovers c k. UnderCovers isCovers (lists (place l c)) k) (root t)
-
--- Of an interval, where it is known.
-abbrev pub WhereKnown : (Interval → Type 0) → Dimension → Type 0
-WhereKnown P Dimension.Missing = Unit {0}
-WhereKnown P (Dimension.Known i) = P i
+  pub under : EachLeaf (λ f c. UnderCovers f (lists (place l c))) (root t)
 
 -- Of x, y, and of z and m where they are known.
 pub record Each (P : Interval → Type 0) (b : BoundingBox) : Type 0 where
@@ -128,26 +176,26 @@ Numbers byPosition names = Unit {0}
 Numbers (byName ns) names = (i : ℕ) → i < length ns → getD names i 0 ≡ getD ns i 0
 
 -- Of the second half.
-pub record Pointed (l : Lookup) (t : Table) (r : Boxes) (row : Row) (names : List ℕ) : Type 0 where
+pub record Pointed (l : Lookup) (t : Table) (r : Records) (row : Row) (names : List ℕ) : Type 0 where
   pub numbers : Numbers l names
   -- every column is among them: those for which a record is lent, and others
-  pub columns : length (r .flags) ≤ length names
+  pub columns : length (r .boxes .flags) ≤ length names
   -- the ends are doubles
   pub literals : All (λ d. T (fits binary64 d)) (t .literals .doubles)
-  pub doubles : (i : ℕ) → i < length names → WhereBox boundingBox.Doubles (row i)
+  pub doubles : (i : ℕ) → i < length names → WhereBox boundingBox.Doubles (row i .bbox)
   -- "the row is a point without NaN"
-  pub point : (i : ℕ) → i < length names → WhereBox (Each isPoint) (row i)
-  -- "each leaf names its own column"
-  pub ownNames : EachLeaf (λ isCovers c k. c .name ≡ getD names (place l c) 0) (root t)
+  pub point : (i : ℕ) → i < length names → WhereBox (Each isPoint) (row i .bbox)
+  -- "each leaf names its own column" (each that has a literal: a HasZ is as an Unknown here)
+  pub ownNames : EachLeaf (λ f c. OfLiteral (λ k. c .name ≡ getD names (place l c) 0) f) (root t)
   -- "names differ": no two columns share a number
   pub differ : (i j : ℕ) → i < length names → j < length names → getD names i 0 ≡ getD names j 0 → i ≡ j
   -- "all literals run low to high": every known dimension of every literal that a leaf names
-  pub lowToHigh : EachLeaf (λ isCovers c k. Each (λ i. lowToHigh i ≡ true) k) (root t)
+  pub lowToHigh : EachLeaf (λ f c. OfLiteral (Each (λ i. lowToHigh i ≡ true)) f) (root t)
 
 -- ---- the conclusions
 
 -- "then the filter held against these folds answers 'may match'"
-abbrev pub MayMatch : Lookup → Table → Boxes → Type 0
+abbrev pub MayMatch : Lookup → Table → Records → Type 0
 MayMatch l t r = _≡_ {A = Evaluation} (evaluate l t r) Evaluation.MayMatch
 
 -- "then `contains` is true of each column's filter box and the row's box there"
@@ -155,11 +203,11 @@ abbrev pub Reaches : Table → Row → List ℕ → Type 0
 Reaches t row names =
     (i : ℕ)
     → i < length names
-    → WhereBox (λ b. (filterBbox t (getD names i 0) .number ≡ 0) × (boundingBox.contains (filterBbox t (getD names i 0) .bounds) b ≡ true)) (row i)
+    → WhereBox (λ b. (filterBbox t (getD names i 0) .number ≡ 0) × (boundingBox.contains (filterBbox t (getD names i 0) .bounds) b ≡ true)) (row i .bbox)
 
 -- Demand 3, undivided.
 abbrev pub Demand3 : Type 0
 Demand3 =
-    (l : Lookup) (t : Table) (r : Boxes) (row : Row) (lists : ℕ → List GeoStatistics)
+    (l : Lookup) (t : Table) (r : Records) (row : Row) (lists : ℕ → List GeoStatistics)
     → Wanted l t r row lists
     → MayMatch l t r × ((names : List ℕ) → Pointed l t r row names → Reaches t row names)

@@ -10,9 +10,6 @@ words = 4
 abbrev pub unknownKind : ℕ
 unknownKind = 5
 
-abbrev pub hasZ : ℕ
-hasZ = 6
-
 abbrev pub badTree : ℕ
 badTree = 7
 

@@ -6,3 +6,4 @@ pub mod Refusals
 pub mod SpatialFilter
 pub mod Statistics
 pub mod Tables
+pub mod WithoutHasZ

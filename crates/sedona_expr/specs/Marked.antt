@@ -10,7 +10,7 @@ use Rattle.sedona_geometry.specs.WraparoundInterval as wraparound
 use Rattle.sedona_geometry.specs.declared.interval.Interval.{Interval}
 use Rattle.sedona_geometry.specs.declared.interval.WraparoundInterval.{WraparoundInterval}
 use Rattle.sedona_geometry.specs.declared.interval.Intersection.{Intersection}
-use Rattle.sedona_expr.specs.Tables.{Boxes, Table, boxes, table, byPosition}
+use Rattle.sedona_expr.specs.Tables.{Records, Table, records, table, byPosition}
 use Rattle.sedona_expr.specs.Calls.{evaluate, filterBbox}
 use Rattle.sedona_expr.specs.declared.spatial_filter.Evaluation as Evaluation
 use Rattle.sedona_expr.specs.declared.spatial_filter.Evaluation.{Evaluation}
@@ -24,7 +24,7 @@ pub data Reading : Type 0 where
   expand : WraparoundInterval → Float → WraparoundInterval → Reading
   plainIntersect : Interval → Interval → Bool → Reading
   emptyAcceptsNothing : WraparoundInterval → Reading
-  mayMatchInNoX : Table → Boxes → Reading
+  mayMatchInNoX : Table → Records → Reading
 
 -- The call has this answer.
 abbrev pub Holds : Reading → Type 0
@@ -86,5 +86,5 @@ marked =
     ∷ intersect (x (plus 0) (plus 10)) (x (plus 20) (plus 5)) (Intersection.Single (x (plus 0) (plus 5)))
     -- P10 And of Intersects x (1, 2) and x (5, 6), both y (0, 1), against record x (0, 10), y (0, 1): may match, yet the filter box has empty x
     ∷ mayMatchInNoX (table (0 ∷ 0 ∷ 0 ∷ 0 ∷ 0 ∷ 0 ∷ 0 ∷ 1 ∷ 3 ∷ 0 ∷ 1 ∷ 0 ∷ []) (ends (plus 1) (plus 2) (ends (plus 5) (plus 6) [])) (1 ∷ 1 ∷ []))
-    (boxes (ends (plus 0) (plus 10) []) (1 ∷ []))
+    (records (ends (plus 0) (plus 10) []) (1 ∷ []) (0 ∷ []) (0 ∷ []))
     ∷ []

@@ -7,7 +7,7 @@ use Prim.Native.Nat.{ℕ, zero, suc, _+_, _-_, _*_, _%_, _≤_, _<_}
 use lib.Dec.{eqb, ltb}
 use lib.ListN.{length, getD}
 use Rattle.sedona_expr.specs.Error as error
-use Rattle.sedona_expr.specs.Tables.{Boxes, Table, word, kind, count, isPair, isLeaf, areBelow, Lookup, byPosition, byName, placeOf}
+use Rattle.sedona_expr.specs.Tables.{Boxes, Records, Table, word, kind, count, isPair, isLeaf, areBelow, Lookup, byPosition, byName, placeOf}
 
 -- The first of two numbers that is not 0.
 unfoldable pub orElse : ℕ → ℕ → ℕ
@@ -35,6 +35,10 @@ goodFlag none f = cond (eqb f 0) none (eqb f 1 || eqb f 3 || eqb f 5 || eqb f 7)
 unfoldable pub boxesRefusal : Bool → Boxes → ℕ
 boxesRefusal none b = when (not (eqb (length (b .doubles)) (8 * length (b .flags))) || not (all (goodFlag none) (b .flags))) error.boxes
 
+-- 8: types or known bytes not as many as the records, or a byte that is not 0 or 1.
+unfoldable pub typesRefusal : List ℕ → List ℕ → ℕ → ℕ
+typesRefusal ts ks records = when (not (eqb (length ts) records) || not (eqb (length ks) records) || not (all (λ b. ltb b 2) ks)) error.boxes
+
 -- 8, by name: name and record counts differ.
 unfoldable pub namesRefusal : Lookup → ℕ → ℕ
 namesRefusal byPosition records = 0
@@ -53,8 +57,10 @@ twiceRefusal byPosition = 0
 twiceRefusal (byName ns) = when (hasTwice ns) error.nameTwice
 
 -- Of the records: 8, then 11.
-unfoldable pub recordsRefusal : Lookup → Boxes → ℕ
-recordsRefusal l r = orElse (boxesRefusal true r) (orElse (namesRefusal l (length (r .flags))) (twiceRefusal l))
+unfoldable pub recordsRefusal : Lookup → Records → ℕ
+recordsRefusal l r =
+    let n = length (r .boxes .flags) in
+    orElse (boxesRefusal true (r .boxes)) (orElse (typesRefusal (r .types) (r .known) n) (orElse (namesRefusal l n) (twiceRefusal l)))
 
 -- ---- node by node
 
@@ -66,15 +72,19 @@ isLent asked columns i = not asked || ltb i columns
 unfoldable pub pairRefusal : List ℕ → ℕ → ℕ
 pairRefusal ns n = when (not (areBelow ns n)) error.badTree
 
--- An Intersects or Covers: 9 literal number not lent; 10 column index not lent.
-unfoldable pub leafRefusal : List ℕ → ℕ → (ℕ → Bool) → ℕ → ℕ
-leafRefusal ns literals lent n = cond (ltb (word ns n 3) literals) (when (not (lent (word ns n 1))) error.noColumn) error.noLiteral
+-- A HasZ: 10 column index not lent.
+unfoldable pub columnRefusal : List ℕ → (ℕ → Bool) → ℕ → ℕ
+columnRefusal ns lent n = when (not (lent (word ns n 1))) error.noColumn
 
--- 5 kind over 6; 6 HasZ; then by the kind.
+-- An Intersects or Covers: 9 literal number not lent; then 10.
+unfoldable pub leafRefusal : List ℕ → ℕ → (ℕ → Bool) → ℕ → ℕ
+leafRefusal ns literals lent n = cond (ltb (word ns n 3) literals) (columnRefusal ns lent n) error.noLiteral
+
+-- 5 kind over 6; then by the kind.
 unfoldable pub nodeRefusal : List ℕ → ℕ → (ℕ → Bool) → ℕ → ℕ
 nodeRefusal ns literals lent n =
     cond (ltb 6 (kind ns n)) error.unknownKind
-    (cond (eqb (kind ns n) 2) error.hasZ
+    (cond (eqb (kind ns n) 2) (columnRefusal ns lent n)
     (cond (isPair (kind ns n)) (pairRefusal ns n) (cond (isLeaf (kind ns n)) (leafRefusal ns literals lent n) 0)))
 
 -- The nodes below n, upward.
@@ -128,10 +138,10 @@ asksIndex byPosition = true
 asksIndex (byName ns) = false
 
 -- The first number in 01's order.
-unfoldable pub refusal : Lookup → Table → Boxes → ℕ
+unfoldable pub refusal : Lookup → Table → Records → ℕ
 refusal l t r =
     orElse (tableRefusal t)
-    (orElse (recordsRefusal l r) (treeRefusal (t .nodes) (length (t .literals .flags)) (isLent (asksIndex l) (length (r .flags)))))
+    (orElse (recordsRefusal l r) (treeRefusal (t .nodes) (length (t .literals .flags)) (isLent (asksIndex l) (length (r .boxes .flags)))))
 
 -- Of `filter_bbox`, which has no records.
 unfoldable pub boxRefusal : Table → ℕ

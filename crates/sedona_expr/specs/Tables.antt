@@ -1,5 +1,5 @@
--- What the tables that are lent to a filter call spell: the boxes of literals and records, the tree of the nodes, and which record a leaf finds.
--- Each is total: what lies past an end reads as 0, or as no box. Such tables are refused before any answer (Refusals).
+-- What the tables that are lent to a filter call spell: the boxes of literals and records, the records' types, the tree of the nodes, and which
+-- record a leaf finds. Each is total: what lies past an end reads as 0, or as no box and no types. Such tables are refused before any answer (Refusals).
 use mathlib.Core.Bool.{Bool, _&&_, _||_, cond}
 use mathlib.Core.List.{List, [], _∷_}
 use Prim.Native.Nat.{ℕ, zero, suc, _+_, _-_, _*_, _/_, _%_}
@@ -9,13 +9,17 @@ use lib.Ieee.{Float, nan}
 use Rattle.sedona_geometry.specs.Interval as interval
 use Rattle.sedona_geometry.specs.WraparoundInterval as wraparound
 use Rattle.sedona_geometry.specs.BoundingBox as boundingBox
+use Rattle.sedona_geometry.specs.Types as types
 use Rattle.sedona_geometry.specs.declared.interval.Interval.{Interval}
 use Rattle.sedona_geometry.specs.declared.bounding_box.Dimension.{Dimension}
 use Rattle.sedona_geometry.specs.declared.bounding_box.Dimension as Dimension
 use Rattle.sedona_geometry.specs.declared.bounding_box.BoundingBox.{BoundingBox}
-use Rattle.sedona_expr.specs.SpatialFilter.{Column, Filter, intersects, covers, and, or, literalFalse, unknown}
+use Rattle.sedona_expr.specs.SpatialFilter.{Column, Filter, intersects, covers, hasZ, and, or, literalFalse, unknown}
 use Rattle.sedona_expr.specs.declared.statistics.Bbox as Bbox
 use Rattle.sedona_expr.specs.declared.statistics.Bbox.{Bbox}
+use Rattle.sedona_expr.specs.declared.statistics.GeometryTypes as GeometryTypes
+use Rattle.sedona_expr.specs.declared.statistics.GeometryTypes.{GeometryTypes}
+use Rattle.sedona_expr.specs.declared.tables.ColumnRecord.{ColumnRecord}
 
 -- ---- boxes
 
@@ -31,11 +35,11 @@ boxes ds fs = record { doubles = ds; flags = fs }
 abbrev pub hasBox : ℕ → Bool
 hasBox flag = eqb (flag % 2) 1
 
-abbrev pub hasZ : ℕ → Bool
-hasZ flag = eqb (flag / 2 % 2) 1
+abbrev pub knowsZ : ℕ → Bool
+knowsZ flag = eqb (flag / 2 % 2) 1
 
-abbrev pub hasM : ℕ → Bool
-hasM flag = eqb (flag / 4 % 2) 1
+abbrev pub knowsM : ℕ → Bool
+knowsM flag = eqb (flag / 4 % 2) 1
 
 -- Interval k of the box at a place.
 abbrev pub intervalAt : List Float → ℕ → ℕ → Interval
@@ -47,7 +51,7 @@ dimension known i = cond known (Dimension.Known i) Dimension.Missing
 -- The box at a place, with its flag.
 unfoldable pub boxWith : List Float → ℕ → ℕ → BoundingBox
 boxWith ds i flag =
-    boundingBox.xyzm (wraparound.fromInterval (intervalAt ds i 0)) (intervalAt ds i 1) (dimension (hasZ flag) (intervalAt ds i 2)) (dimension (hasM flag) (intervalAt ds i 3))
+    boundingBox.xyzm (wraparound.fromInterval (intervalAt ds i 0)) (intervalAt ds i 1) (dimension (knowsZ flag) (intervalAt ds i 2)) (dimension (knowsM flag) (intervalAt ds i 3))
 
 -- The box at a place; none where the flag says so, and none past the end.
 unfoldable pub boxAt : Boxes → ℕ → Bbox
@@ -58,6 +62,25 @@ boxAt b i =
 unfoldable pub orEmpty : Bbox → BoundingBox
 orEmpty Bbox.Missing = boundingBox.empty
 orEmpty (Bbox.Known b) = b
+
+-- ---- records
+
+-- A box each; and types each, with a byte: 1 where they are known.
+pub record Records : Type 0 where
+  pub boxes : Boxes
+  pub types : List ℕ
+  pub known : List ℕ
+
+abbrev pub records : List Float → List ℕ → List ℕ → List ℕ → Records
+records ds fs ts ks = record { boxes = boxes ds fs; types = ts; known = ks }
+
+-- The types at a place; none where the byte says so, and none past the end.
+unfoldable pub typesAt : List ℕ → List ℕ → ℕ → GeometryTypes
+typesAt ts ks i = cond (ltb i (length ts) && eqb (getD ks i 0) 1) (GeometryTypes.Known (types.fromBits (getD ts i 0))) GeometryTypes.Missing
+
+-- The record at a place, as a leaf sees it.
+abbrev pub recordAt : Records → ℕ → ColumnRecord
+recordAt r i = record { bbox = boxAt (r .boxes) i; types = typesAt (r .types) (r .known) i }
 
 -- ---- nodes
 
@@ -79,7 +102,7 @@ table ns ds fs = record { nodes = ns; literals = boxes ds fs }
 abbrev pub column : ℕ → ℕ → Column
 column i n = record { index = i; name = n }
 
--- Of an Intersects or a Covers.
+-- Of an Intersects, a Covers or a HasZ.
 abbrev pub columnOf : List ℕ → ℕ → Column
 columnOf ns n = column (word ns n 1) (word ns n 2)
 
@@ -116,7 +139,8 @@ treeOf t n below =
     let r = below (word (t .nodes) n 2) in
     let c = columnOf (t .nodes) n in
     cond (isLeaf k) (leafOf k (intersects c (literal t n)) (covers c (literal t n)))
-    (cond (isPair k) (cond (areBelow (t .nodes) n) (pairOf k (and l r) (or l r)) unknown) (cond (eqb k 5) literalFalse unknown))
+    (cond (eqb k 2) (hasZ c)
+    (cond (isPair k) (cond (areBelow (t .nodes) n) (pairOf k (and l r) (or l r)) unknown) (cond (eqb k 5) literalFalse unknown)))
 
 -- The trees of the nodes below n.
 abbrev pub treesBelow : Table → ℕ → ℕ → Filter
@@ -148,6 +172,6 @@ unfoldable pub place : Lookup → Column → ℕ
 place byPosition c = c .index
 place (byName ns) c = placeOf ns (c .name)
 
--- The box of a column's record; none where its name is unknown.
-abbrev pub recordOf : Lookup → Boxes → Column → Bbox
-recordOf l r c = boxAt r (place l c)
+-- A column's record as a leaf sees it: without a box and types where its name is unknown.
+abbrev pub recordOf : Lookup → Records → Column → ColumnRecord
+recordOf l r c = recordAt r (place l c)

@@ -9,13 +9,11 @@ pub const WORDS: u32 = 4;
 // A kind over 6.
 pub const UNKNOWN_KIND: u32 = 5;
 
-// A HasZ node.
-pub const HAS_Z: u32 = 6;
-
 // A child not below its parent, or a node but the root not used exactly once.
 pub const BAD_TREE: u32 = 7;
 
-// Doubles not eight a flag, bad flags, or not as many names as records.
+// Doubles not eight a flag, bad flags, types or names not as many as the records, or a known byte
+// that is not 0 or 1.
 pub const BOXES: u32 = 8;
 
 // A literal number that is not lent.

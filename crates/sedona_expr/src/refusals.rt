@@ -2,20 +2,19 @@
 // `box_refusal`, at the end, have their order. All nodes are checked before any is answered.
 ghost use mathlib.Core.Path.{_≡_};
 ghost use Prim.Native.Nat.{_≤_, _+_};
-ghost use lib.Dec.{eqb};
+ghost use lib.Dec.{eqb, ltb};
 ghost use lib.ListN.{length, getD};
 ghost use Rattle.sedona_expr.specs.Tables as tables;
 ghost use Rattle.sedona_expr.specs.Refusals as refusals;
 use crate::error::BAD_TREE;
 use crate::error::BOXES;
-use crate::error::HAS_Z;
 use crate::error::NAME_TWICE;
 use crate::error::NO_COLUMN;
 use crate::error::NO_LITERAL;
 use crate::error::UNKNOWN_KIND;
 use crate::error::WORDS;
 use crate::tables::ENDS;
-use crate::tables::HAS_Z_KIND;
+use crate::tables::HAS_Z;
 use crate::tables::LAST_KIND;
 use crate::tables::NODE;
 use crate::tables::is_leaf;
@@ -94,6 +93,37 @@ fn boxes_refusal(none: bool, doubles: &[f64], flags: &[u8]) -> u32
     }
 }
 
+// Whether every byte is 0 or 1.
+fn are_zero_or_one(bytes: &[u8]) -> bool
+    ensures { λ r. ⌜ r ≡ refusals.all (λ b. ltb b 2) (now (bytes .entry)) ⌝ }
+{
+    let mut i = 0;
+    while i < bytes.len() {
+        if bytes[i] >= 2 {
+            return false;
+        }
+        i += 1;
+    }
+    true
+}
+
+// Types or known bytes not as many as the records, or a byte that is not 0 or 1.
+fn types_refusal(record_types: &[u32], types_known: &[u8], records: usize) -> u32
+    ensures { λ r. ⌜ r ≡ refusals.typesRefusal (now («record_types» .entry)) (now («types_known» .entry)) records ⌝ }
+{
+    if record_types.len() != records {
+        return BOXES;
+    }
+    if types_known.len() != records {
+        return BOXES;
+    }
+    if are_zero_or_one(types_known) {
+        0
+    } else {
+        BOXES
+    }
+}
+
 // By name: not as many names as records.
 fn names_refusal(named: bool, names: &[u32], records: usize) -> u32
     ensures { λ r. ⌜ r ≡ refusals.namesRefusal (tables.lookup named (now (names .entry))) records ⌝ }
@@ -129,10 +159,21 @@ fn twice_refusal(named: bool, names: &[u32]) -> u32
 }
 
 // What the records are refused by.
-fn records_refusal(records: &[f64], record_flags: &[u8], named: bool, names: &[u32]) -> u32
-    ensures { λ r. ⌜ r ≡ refusals.recordsRefusal (tables.lookup named (now (names .entry))) (tables.boxes (now (records .entry)) (now («record_flags» .entry))) ⌝ }
+fn records_refusal(
+    records: &[f64],
+    record_flags: &[u8],
+    record_types: &[u32],
+    types_known: &[u8],
+    named: bool,
+    names: &[u32],
+) -> u32
+    ensures { λ r. ⌜ r ≡ refusals.recordsRefusal (tables.lookup named (now (names .entry))) (tables.records (now (records .entry)) (now («record_flags» .entry)) (now («record_types» .entry)) (now («types_known» .entry))) ⌝ }
 {
     let number = boxes_refusal(true, records, record_flags);
+    if number != 0 {
+        return number;
+    }
+    let number = types_refusal(record_types, types_known, record_flags.len());
     if number != 0 {
         return number;
     }
@@ -155,13 +196,10 @@ fn pair_refusal(nodes: &[u32], node: u32) -> u32
     if right >= node { BAD_TREE } else { 0 }
 }
 
-// A leaf whose literal or whose column is not lent.
-fn leaf_refusal(nodes: &[u32], node: u32, literals: usize, asked: bool, columns: usize) -> u32
-    ensures { λ r. ⌜ r ≡ refusals.leafRefusal (now (nodes .entry)) literals (refusals.isLent asked columns) node ⌝ }
+// A leaf whose column is not lent.
+fn column_refusal(nodes: &[u32], node: u32, asked: bool, columns: usize) -> u32
+    ensures { λ r. ⌜ r ≡ refusals.columnRefusal (now (nodes .entry)) (refusals.isLent asked columns) node ⌝ }
 {
-    if word(nodes, node, 3) as usize >= literals {
-        return NO_LITERAL;
-    }
     if !asked {
         return 0;
     }
@@ -172,6 +210,16 @@ fn leaf_refusal(nodes: &[u32], node: u32, literals: usize, asked: bool, columns:
     }
 }
 
+// A leaf whose literal or whose column is not lent.
+fn leaf_refusal(nodes: &[u32], node: u32, literals: usize, asked: bool, columns: usize) -> u32
+    ensures { λ r. ⌜ r ≡ refusals.leafRefusal (now (nodes .entry)) literals (refusals.isLent asked columns) node ⌝ }
+{
+    if word(nodes, node, 3) as usize >= literals {
+        return NO_LITERAL;
+    }
+    column_refusal(nodes, node, asked, columns)
+}
+
 // What a node is refused by.
 fn node_refusal(nodes: &[u32], node: u32, literals: usize, asked: bool, columns: usize) -> u32
     ensures { λ r. ⌜ r ≡ refusals.nodeRefusal (now (nodes .entry)) literals (refusals.isLent asked columns) node ⌝ }
@@ -180,8 +228,8 @@ fn node_refusal(nodes: &[u32], node: u32, literals: usize, asked: bool, columns:
     if kind > LAST_KIND {
         return UNKNOWN_KIND;
     }
-    if kind == HAS_Z_KIND {
-        return HAS_Z;
+    if kind == HAS_Z {
+        return column_refusal(nodes, node, asked, columns);
     }
     if is_pair(kind) {
         return pair_refusal(nodes, node);
@@ -305,16 +353,25 @@ pub(crate) fn refusal(
     literal_flags: &[u8],
     records: &[f64],
     record_flags: &[u8],
+    record_types: &[u32],
+    types_known: &[u8],
     named: bool,
     names: &[u32],
 ) -> u32
-    ensures { λ r. ⌜ r ≡ refusals.refusal (tables.lookup named (now (names .entry))) (tables.table (now (nodes .entry)) (now (literals .entry)) (now («literal_flags» .entry))) (tables.boxes (now (records .entry)) (now («record_flags» .entry))) ⌝ }
+    ensures { λ r. ⌜ r ≡ refusals.refusal (tables.lookup named (now (names .entry))) (tables.table (now (nodes .entry)) (now (literals .entry)) (now («literal_flags» .entry))) (tables.records (now (records .entry)) (now («record_flags» .entry)) (now («record_types» .entry)) (now («types_known» .entry))) ⌝ }
 {
     let number = table_refusal(nodes, literals, literal_flags);
     if number != 0 {
         return number;
     }
-    let number = records_refusal(records, record_flags, named, names);
+    let number = records_refusal(
+        records,
+        record_flags,
+        record_types,
+        types_known,
+        named,
+        names,
+    );
     if number != 0 {
         return number;
     }

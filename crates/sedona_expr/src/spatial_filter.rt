@@ -1,5 +1,6 @@
-// Filters held against the boxes of columns, after spatial_filter.rs: what a filter answers, its box,
-// and the three calls. tables.rt has how filters and boxes are lent, refusals.rt which are refused.
+// Filters held against the records of columns, after spatial_filter.rs: what a filter answers, its
+// box, and the three calls. tables.rt has how filters and records are lent, refusals.rt which are
+// refused.
 ghost use mathlib.Core.Path.{_≡_};
 ghost use mathlib.Core.Bool.{_&&_, _||_};
 ghost use Rattle.sedona_geometry.specs.BoundingBox as boundingBox;
@@ -9,7 +10,10 @@ ghost use Rattle.sedona_expr.specs.Calls as calls;
 use crate::refusals::box_refusal;
 use crate::refusals::refusal;
 use crate::statistics::Bbox;
+use crate::statistics::GeometryTypes;
 use crate::tables::AND;
+use crate::tables::ColumnRecord;
+use crate::tables::HAS_Z;
 use crate::tables::INTERSECTS;
 use crate::tables::LITERAL_FALSE;
 use crate::tables::NODE;
@@ -19,9 +23,11 @@ use crate::tables::literal_of;
 use crate::tables::record_of;
 use crate::tables::word;
 use sedona_geometry::bounding_box::BoundingBox;
+use sedona_geometry::bounding_box::Dimension;
 use sedona_geometry::bounding_box::NumberedBox;
 use sedona_geometry::interval::Interval;
 use sedona_geometry::interval::WraparoundInterval;
+use sedona_geometry::types::GeometryTypeAndDimensionsSet;
 
 pub enum Evaluation {
     MayMatch,
@@ -60,6 +66,59 @@ fn leaf_may_match(kind: u32, b: Bbox, literal: BoundingBox) -> bool
     }
 }
 
+// The bits of the types with z: 8 to 15 with z alone, 24 to 31 with z and m.
+const Z_TYPES: u32 = 0xff00_ff00;
+
+// Whether a set has a type with z.
+fn has_z_type(types: GeometryTypeAndDimensionsSet) -> bool
+    ensures { λ r. ⌜ r ≡ filter.hasZType types ⌝ }
+{
+    types.types & Z_TYPES != 0
+}
+
+// Whether the types have one with z; true where they are missing.
+fn may_be_z(types: GeometryTypes) -> bool
+    ensures { λ r. ⌜ r ≡ filter.mayBeZ types ⌝ }
+{
+    let GeometryTypes::Known(known) = types else {
+        return true;
+    };
+    has_z_type(known)
+}
+
+// Whether a z is known and empty.
+fn is_known_empty(d: Dimension) -> bool
+    ensures { λ r. ⌜ r ≡ filter.isKnownEmpty d ⌝ }
+{
+    let Dimension::Known(i) = d else {
+        return false;
+    };
+    i.is_empty()
+}
+
+// Whether a record's z is.
+fn has_empty_z(b: Bbox) -> bool
+    ensures { λ r. ⌜ r ≡ filter.hasEmptyZ b ⌝ }
+{
+    let Bbox::Known(bounds) = b else {
+        return false;
+    };
+    let z = bounds.z;
+    is_known_empty(z)
+}
+
+// What a HasZ answers: false where z is known and empty, else as the types say.
+fn may_have_z(seen: ColumnRecord) -> bool
+    ensures { λ r. ⌜ r ≡ filter.mayHaveZ seen ⌝ }
+{
+    let bbox = seen.bbox;
+    if has_empty_z(bbox) {
+        return false;
+    }
+    let types = seen.types;
+    may_be_z(types)
+}
+
 // What an And, else an Or, answers of its two sides.
 fn both_or_either(kind: u32, a: bool, b: bool) -> bool
     ensures { λ r. ⌜ r ≡ tables.pairOf kind (a && b) (a || b) ⌝ }
@@ -74,17 +133,42 @@ fn may_match(
     literal_flags: &[u8],
     records: &[f64],
     record_flags: &[u8],
+    record_types: &[u32],
+    types_known: &[u8],
     named: bool,
     names: &[u32],
     node: u32,
 ) -> bool
-    ensures { λ r. ⌜ r ≡ filter.answer (tables.recordOf (tables.lookup named (now (names .entry))) (tables.boxes (now (records .entry)) (now («record_flags» .entry)))) (tables.treeAt (tables.table (now (nodes .entry)) (now (literals .entry)) (now («literal_flags» .entry))) node) ⌝ }
+    ensures { λ r. ⌜ r ≡ filter.answer (tables.recordOf (tables.lookup named (now (names .entry))) (tables.records (now (records .entry)) (now («record_flags» .entry)) (now («record_types» .entry)) (now («types_known» .entry)))) (tables.treeAt (tables.table (now (nodes .entry)) (now (literals .entry)) (now («literal_flags» .entry))) node) ⌝ }
 {
     let kind = word(nodes, node, 0);
     if is_leaf(kind) {
         let k = literal_of(nodes, literals, literal_flags, node);
-        let b = record_of(nodes, records, record_flags, named, names, node);
-        return leaf_may_match(kind, b, k);
+        let seen = record_of(
+            nodes,
+            records,
+            record_flags,
+            record_types,
+            types_known,
+            named,
+            names,
+            node,
+        );
+        let bbox = seen.bbox;
+        return leaf_may_match(kind, bbox, k);
+    }
+    if kind == HAS_Z {
+        let seen = record_of(
+            nodes,
+            records,
+            record_flags,
+            record_types,
+            types_known,
+            named,
+            names,
+            node,
+        );
+        return may_have_z(seen);
     }
     if is_pair(kind) {
         let left = word(nodes, node, 1);
@@ -101,6 +185,8 @@ fn may_match(
             literal_flags,
             records,
             record_flags,
+            record_types,
+            types_known,
             named,
             names,
             left,
@@ -111,6 +197,8 @@ fn may_match(
             literal_flags,
             records,
             record_flags,
+            record_types,
+            types_known,
             named,
             names,
             right,
@@ -184,10 +272,12 @@ fn evaluate(
     literal_flags: &[u8],
     records: &[f64],
     record_flags: &[u8],
+    record_types: &[u32],
+    types_known: &[u8],
     named: bool,
     names: &[u32],
 ) -> Evaluation
-    ensures { λ r. ⌜ r ≡ calls.evaluate (tables.lookup named (now (names .entry))) (tables.table (now (nodes .entry)) (now (literals .entry)) (now («literal_flags» .entry))) (tables.boxes (now (records .entry)) (now («record_flags» .entry))) ⌝ }
+    ensures { λ r. ⌜ r ≡ calls.evaluate (tables.lookup named (now (names .entry))) (tables.table (now (nodes .entry)) (now (literals .entry)) (now («literal_flags» .entry))) (tables.records (now (records .entry)) (now («record_flags» .entry)) (now («record_types» .entry)) (now («types_known» .entry))) ⌝ }
 {
     let number = refusal(
         nodes,
@@ -195,6 +285,8 @@ fn evaluate(
         literal_flags,
         records,
         record_flags,
+        record_types,
+        types_known,
         named,
         names,
     );
@@ -208,6 +300,8 @@ fn evaluate(
         literal_flags,
         records,
         record_flags,
+        record_types,
+        types_known,
         named,
         names,
         root,
@@ -225,8 +319,10 @@ pub fn evaluate_by_position(
     literal_flags: &[u8],
     records: &[f64],
     record_flags: &[u8],
+    record_types: &[u32],
+    types_known: &[u8],
 ) -> Evaluation
-    ensures { λ r. ⌜ r ≡ calls.evaluate tables.byPosition (tables.table (now (nodes .entry)) (now (literals .entry)) (now («literal_flags» .entry))) (tables.boxes (now (records .entry)) (now («record_flags» .entry))) ⌝ }
+    ensures { λ r. ⌜ r ≡ calls.evaluate tables.byPosition (tables.table (now (nodes .entry)) (now (literals .entry)) (now («literal_flags» .entry))) (tables.records (now (records .entry)) (now («record_flags» .entry)) (now («record_types» .entry)) (now («types_known» .entry))) ⌝ }
 {
     evaluate(
         nodes,
@@ -234,6 +330,8 @@ pub fn evaluate_by_position(
         literal_flags,
         records,
         record_flags,
+        record_types,
+        types_known,
         false,
         &[],
     )
@@ -246,9 +344,11 @@ pub fn evaluate_by_name(
     literal_flags: &[u8],
     records: &[f64],
     record_flags: &[u8],
+    record_types: &[u32],
+    types_known: &[u8],
     names: &[u32],
 ) -> Evaluation
-    ensures { λ r. ⌜ r ≡ calls.evaluate (tables.byName (now (names .entry))) (tables.table (now (nodes .entry)) (now (literals .entry)) (now («literal_flags» .entry))) (tables.boxes (now (records .entry)) (now («record_flags» .entry))) ⌝ }
+    ensures { λ r. ⌜ r ≡ calls.evaluate (tables.byName (now (names .entry))) (tables.table (now (nodes .entry)) (now (literals .entry)) (now («literal_flags» .entry))) (tables.records (now (records .entry)) (now («record_flags» .entry)) (now («record_types» .entry)) (now («types_known» .entry))) ⌝ }
 {
     evaluate(
         nodes,
@@ -256,6 +356,8 @@ pub fn evaluate_by_name(
         literal_flags,
         records,
         record_flags,
+        record_types,
+        types_known,
         true,
         names,
     )

@@ -1,26 +1,30 @@
 // The tables that are lent to a filter call, and what is read in them. A filter comes as a table of
 // nodes, four words each; the last node is the root. The words are a kind and three more:
 //   0 Intersects, 1 Covers   column index, name number, literal number
+//   2 HasZ                   column index, name number, unread
 //   3 And, 4 Or              left node, right node, unread
 //   5 LiteralFalse, 6 Unknown   unread
-// and 2, HasZ, is refused. Boxes, the literals and the columns' records, come as eight doubles each,
-// low and high of x, y, z, m, and a flag byte: 1 box, 2 z known, 4 m known.
+// Boxes, of the literals and of the columns' records, come as eight doubles each, low and high of x,
+// y, z, m, and a flag byte: 1 box, 2 z known, 4 m known. A record's types come as the 32 bits of
+// their set, and a byte: 1 where they are known.
 ghost use mathlib.Core.Path.{_≡_};
 ghost use Prim.Native.Nat.{_≤_, _+_, _*_};
 ghost use lib.ListN.{length, drop};
 ghost use Rattle.sedona_expr.specs.Tables as tables;
 use crate::statistics::Bbox;
+use crate::statistics::GeometryTypes;
 use sedona_geometry::bounding_box::BoundingBox;
 use sedona_geometry::bounding_box::Dimension;
 use sedona_geometry::interval::Interval;
 use sedona_geometry::interval::WraparoundInterval;
+use sedona_geometry::types::GeometryTypeAndDimensionsSet;
 
 // The kinds of nodes. An Unknown, 6, is the last of them.
 pub(crate) const INTERSECTS: u32 = 0;
 
 pub(crate) const COVERS: u32 = 1;
 
-pub(crate) const HAS_Z_KIND: u32 = 2;
+pub(crate) const HAS_Z: u32 = 2;
 
 pub(crate) const AND: u32 = 3;
 
@@ -118,6 +122,28 @@ pub fn box_at(doubles: &[f64], flags: &[u8], place: usize) -> Bbox
     Bbox::Missing
 }
 
+// A column's record as a leaf sees it: its box, or none, and its types, or none.
+pub struct ColumnRecord {
+    pub bbox: Bbox,
+    pub types: GeometryTypes,
+}
+
+// The types at a place; none where the byte says so, and none past the end.
+fn types_at(types: &[u32], known: &[u8], place: usize) -> GeometryTypes
+    ensures { λ r. ⌜ r ≡ tables.typesAt (now (types .entry)) (now (known .entry)) place ⌝ }
+{
+    if place >= types.len() {
+        return GeometryTypes::Missing;
+    }
+    if place >= known.len() {
+        return GeometryTypes::Missing;
+    }
+    if known[place] == 1 {
+        return GeometryTypes::Known(GeometryTypeAndDimensionsSet::from_bits(types[place]));
+    }
+    GeometryTypes::Missing
+}
+
 // A literal's box.
 fn or_empty(b: Bbox) -> BoundingBox
     ensures { λ r. ⌜ r ≡ tables.orEmpty b ⌝ }
@@ -167,18 +193,24 @@ fn place(named: bool, names: &[u32], index: u32, name: u32) -> usize
     }
 }
 
-// The box of the record of a leaf.
+// The record of a leaf.
 pub(crate) fn record_of(
     nodes: &[u32],
     records: &[f64],
     record_flags: &[u8],
+    record_types: &[u32],
+    types_known: &[u8],
     named: bool,
     names: &[u32],
     node: u32,
-) -> Bbox
-    ensures { λ r. ⌜ r ≡ tables.recordOf (tables.lookup named (now (names .entry))) (tables.boxes (now (records .entry)) (now («record_flags» .entry))) (tables.columnOf (now (nodes .entry)) node) ⌝ }
+) -> ColumnRecord
+    ensures { λ r. ⌜ r ≡ tables.recordOf (tables.lookup named (now (names .entry))) (tables.records (now (records .entry)) (now («record_flags» .entry)) (now («record_types» .entry)) (now («types_known» .entry))) (tables.columnOf (now (nodes .entry)) node) ⌝ }
 {
     let index = word(nodes, node, 1);
     let name = word(nodes, node, 2);
-    box_at(records, record_flags, place(named, names, index, name))
+    let at = place(named, names, index, name);
+    ColumnRecord {
+        bbox: box_at(records, record_flags, at),
+        types: types_at(record_types, types_known, at),
+    }
 }

@@ -235,6 +235,8 @@ fn spoil(random: &mut Random, tables: &mut Tables) {
         2 => tables.literals = Boxes::default(),
         3 => {
             tables.records = Boxes::default();
+            tables.record_types.clear();
+            tables.types_known.clear();
             tables.names.clear();
         }
         4 | 5 => {
@@ -250,5 +252,7 @@ fn drop_column(tables: &mut Tables) {
     let records = &mut tables.records;
     records.ends.truncate(records.ends.len().saturating_sub(8));
     records.flags.pop();
+    tables.record_types.pop();
+    tables.types_known.pop();
     tables.names.pop();
 }

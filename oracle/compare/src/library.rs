@@ -37,6 +37,8 @@ pub fn evaluate_by_position(tables: &Tables) -> u32 {
         &tables.literals.flags,
         &tables.records.ends,
         &tables.records.flags,
+        &tables.record_types,
+        &tables.types_known,
     )
 }
 
@@ -47,6 +49,8 @@ pub fn evaluate_by_name(tables: &Tables) -> u32 {
         &tables.literals.flags,
         &tables.records.ends,
         &tables.records.flags,
+        &tables.record_types,
+        &tables.types_known,
         &tables.names,
     )
 }

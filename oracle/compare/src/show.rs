@@ -82,6 +82,8 @@ impl Display for FilterCase {
         writeln!(f, "nodes: {:?}", tables.nodes)?;
         show_boxes(f, "literals", &tables.literals)?;
         show_boxes(f, "records", &tables.records)?;
+        writeln!(f, "record types: {:?}", tables.record_types)?;
+        writeln!(f, "types known: {:?}", tables.types_known)?;
         write!(f, "names: {:?}\nname: {}", tables.names, self.name)
     }
 }

@@ -10,7 +10,7 @@ returns c = rw (← c .before .word .ensures, lt-ltb _ _ (c .if1 .taken))
 
 returns-2 : tie.Need-returns-2
 unfolding nodeRefusal
-returns-2 c = rw (← c .before .before .word .ensures, le-ltb _ _ (c .before .if1 .left), eq-eqb _ _ (c .if2 .taken))
+returns-2 c = rw (c .column-refusal .ensures, ← c .before .before .before .word .ensures, le-ltb _ _ (c .before .before .if1 .left), eq-eqb _ _ (c .before .if2 .taken))
 
 returns-3 : tie.Need-returns-3
 unfolding nodeRefusal
@@ -49,4 +49,4 @@ returns-5 c =
     rw (← word .ensures, le-ltb _ _ (if1 .left), ne-eqb _ _ (if2 .left), ← is-pair .ensures, if3 .left, ← is-leaf .ensures, if4 .left)
 
 pub node-refusal-spec : {M : Type 1} → statement M
-node-refusal-spec = tie.close (tie.spec (λ c κs. tt) returns returns-2 (λ c κs. tt) (λ c κs. tt) returns-3 (λ c κs. tt) (λ c κs. tt) returns-4 returns-5)
+node-refusal-spec = tie.close (tie.spec (λ c κs. tt) returns (λ c κs. tt) returns-2 (λ c κs. tt) (λ c κs. tt) returns-3 (λ c κs. tt) (λ c κs. tt) returns-4 returns-5)

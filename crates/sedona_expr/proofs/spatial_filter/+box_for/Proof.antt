@@ -1,10 +1,10 @@
 -- The proof of the cycle of calls {box_for}: the node number falls. Assumes nothing.
 use mathlib.Core.Path.{_≡_, refl, sym, subst, _∙_}
-use mathlib.Core.Bool.{cond}
+use mathlib.Core.Bool.{Bool, true, false, cond}
 use lib.Dec.{eqb}
-use borrow.Author.Tests.{eq-eqb, ne-eqb}
+use borrow.Author.Tests.{eqb-true, eq-eqb, ne-eqb}
 use Rattle.sedona_geometry.specs.BoundingBox.{intersection, mergeBox}
-use Rattle.sedona_expr.specs.SpatialFilter.{Filter, literalFalse, unknown, boxFor, orFull, full}
+use Rattle.sedona_expr.specs.SpatialFilter.{Column, Filter, hasZ, literalFalse, unknown, boxFor, orFull, full}
 use Rattle.sedona_expr.specs.Tables.{Table, table, literal, treeAt, pairOf}
 use Rattle.sedona_expr.proofs.Trees.{says-leaf, says-pair, says-broken, says-other, broken-left, broken-right, leaf-same, pair-and, pair-or}
 use Prim.Native.Nat.{ℕ, _<_}
@@ -124,6 +124,14 @@ returns-5 t c = c .intersection-or-full .ensures ∙ sym (pair t (c .before .bef
 returns-6 : (t : ℕ) → lts.Need-returns-6 (claims t) (here t) reads.Post
 returns-6 t c = c .merge-box .ensures ∙ sym (pair t (c .before .before) ∙ pair-or _ _ _ (c .before .if6 .left))
 
+-- a HasZ has the box of an Unknown
+has-z-full : (n k : ℕ) (c : Column) → boxFor n (cond (eqb k 2) (hasZ c) (cond (eqb k 5) literalFalse unknown)) ≡ boxFor n (cond (eqb k 5) literalFalse unknown)
+has-z-full n k c = go (eqb k 2) refl
+  where
+    go : (b : Bool) → eqb k 2 ≡ b → boxFor n (cond b (hasZ c) (cond (eqb k 5) literalFalse unknown)) ≡ boxFor n (cond (eqb k 5) literalFalse unknown)
+    go true e = rw (eqb-true k 2 e)
+    go false e = refl
+
 -- the box of any other node
 other : (t : ℕ) (c : lts.Else3 (claims t) (here t) reads.Post)
     → let w = c .before .before .before .before in
@@ -131,7 +139,7 @@ other : (t : ℕ) (c : lts.Else3 (claims t) (here t) reads.Post)
 other t c =
     let w = c .before .before .before .before in
     let args = w .before .before .before .before .args in
-    says-other (boxFor (args .name)) (lent t w) (args .node) (w .word .result) _ _ (w .word .ensures) refl refl (sym (c .before .before .before .is-leaf .ensures) ∙ c .before .before .if1 .left) (sym (c .before .is-pair .ensures) ∙ c .if3 .left)
+    says-other (boxFor (args .name)) (lent t w) (args .node) (w .word .result) _ _ (w .word .ensures) refl refl (sym (c .before .before .before .is-leaf .ensures) ∙ c .before .before .if1 .left) (sym (c .before .is-pair .ensures) ∙ c .if3 .left) ∙ has-z-full (args .name) (w .word .result) _
 
 returns-7 : (t : ℕ) → lts.Need-returns-7 (claims t) (here t) reads.Post
 returns-7 t c = c .empty .ensures ∙ sym (other t (c .before .before) ∙ rw (eq-eqb _ 5 (c .before .if7 .taken)))

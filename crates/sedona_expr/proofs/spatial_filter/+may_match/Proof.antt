@@ -1,9 +1,11 @@
 -- The proof of the cycle of calls {may_match}: the node number falls. Assumes nothing.
-use mathlib.Core.Path.{refl, sym, subst, _∙_}
+use mathlib.Core.Path.{_≡_, refl, sym, subst, _∙_}
+use mathlib.Core.Bool.{Bool, true, false}
 use lib.Dec.{eqb}
-use Rattle.sedona_expr.specs.SpatialFilter.{answer}
-use Rattle.sedona_expr.specs.Tables.{table, boxes, lookup, recordOf}
-use Rattle.sedona_expr.proofs.Trees.{says-leaf, says-pair, says-broken, says-other, broken-left, broken-right, answer-other}
+use borrow.Author.Tests.{ne-eqb}
+use Rattle.sedona_expr.specs.SpatialFilter.{Filter, answer}
+use Rattle.sedona_expr.specs.Tables.{Table, table, records, lookup, recordOf, treeAt, areBelow}
+use Rattle.sedona_expr.proofs.Trees.{says-leaf, says-has-z, says-pair, says-broken, says-other, broken-left, broken-right, answer-other}
 use Prim.Native.Nat.{ℕ, _<_}
 use borrow.Fn.Kinds.{In}
 use borrow.Fn.PlainCycle.{Measures, is, falls, and}
@@ -14,97 +16,90 @@ use Rattle.sedona_expr.proofs.spatial_filter.both_or_either.Reads as bo
 use Rattle.sedona_expr.proofs.tables.is_leaf.Reads as is-leaf-reads
 use Rattle.sedona_expr.proofs.tables.is_pair.Reads as is-pair-reads
 use Rattle.sedona_expr.proofs.spatial_filter.leaf_may_match.Reads as leaf-may-match-reads
+use Rattle.sedona_expr.proofs.spatial_filter.may_have_z.Reads as may-have-z-reads
 use Rattle.sedona_expr.proofs.tables.literal_of.Reads as literal-of-reads
 use Rattle.sedona_expr.proofs.tables.record_of.Reads as record-of-reads
 use Rattle.sedona_expr.proofs.tables.word.Reads as word-reads
 use Rattle.sedona_expr.proofs.spatial_filter.+may_match.{statement}
 use Rattle.sedona_expr.proofs.spatial_filter.+may_match.Tie.{close}
 
-abbrev μ : Measures 6 kinds.ps ℕ
-μ κs a = a .1 .1 .1 .1 .1 .1 .1 .0
+abbrev μ : Measures 8 kinds.ps ℕ
+μ κs a = a .1 .1 .1 .1 .1 .1 .1 .1 .1 .0
 
 -- what it is given at the measure t, and what a call of it asks below t
-abbrev here : ℕ → In 6 kinds.ps
-here t = and 6 kinds.ps (is 6 kinds.ps μ t) reads.Pre
+abbrev here : ℕ → In 8 kinds.ps
+here t = and 8 kinds.ps (is 8 kinds.ps μ t) reads.Pre
 
-abbrev below : ℕ → In 6 kinds.ps
-below t = and 6 kinds.ps (falls 6 kinds.ps _<_ μ t) reads.Pre
+abbrev below : ℕ → In 8 kinds.ps
+below t = and 8 kinds.ps (falls 8 kinds.ps _<_ μ t) reads.Pre
 
 abbrev claims : ℕ → lts.Claims
-claims t = (word-reads.Asked, word-reads.Learnt, is-leaf-reads.Asked, is-leaf-reads.Learnt, literal-of-reads.Asked, literal-of-reads.Learnt, record-of-reads.Asked, record-of-reads.Learnt, leaf-may-match-reads.Asked, leaf-may-match-reads.Learnt, is-pair-reads.Asked, is-pair-reads.Learnt, below t, reads.Post, both-or-either-reads.Asked, both-or-either-reads.Learnt)
+claims t = (word-reads.Asked, word-reads.Learnt, is-leaf-reads.Asked, is-leaf-reads.Learnt, literal-of-reads.Asked, literal-of-reads.Learnt, record-of-reads.Asked, record-of-reads.Learnt, leaf-may-match-reads.Asked, leaf-may-match-reads.Learnt, may-have-z-reads.Asked, may-have-z-reads.Learnt, is-pair-reads.Asked, is-pair-reads.Learnt, below t, reads.Post, both-or-either-reads.Asked, both-or-either-reads.Learnt)
+
+-- what is lent where the node's kind was read, and what a filter answers of it
+abbrev lent : (t : ℕ) → lts.After-word (claims t) (here t) reads.Post → Table
+lent t w = let args = w .before .before .before .before .before .before .before .before .before .args in table (args .nodes .now) (args .literals .now) (args .literal-flags .now)
+
+abbrev says : (t : ℕ) → lts.After-word (claims t) (here t) reads.Post → Filter → Bool
+says t w = let args = w .before .before .before .before .before .before .before .before .before .args in answer (recordOf (lookup (args .named) (args .names .now)) (records (args .records .now) (args .record-flags .now) (args .record-types .now) (args .types-known .now)))
 
 returns : (t : ℕ) → lts.Need-returns (claims t) (here t) reads.Post
 returns t c =
-    let args = c .before .before .before .before .before .before .before .before .before .before .before .before .args in
-    let word = c .before .before .before .before .before .word in
-    let is-leaf = c .before .before .before .before .is-leaf in
-    let if1 = c .before .before .before .if1 in
-    let literal-of = c .before .before .literal-of in
-    let record-of = c .before .record-of in
-    let leaf-may-match = c .leaf-may-match in
-    rw (leaf-may-match .ensures, record-of .ensures, literal-of .ensures) (sym (says-leaf (answer (recordOf (lookup (args .named) (args .names .now)) (boxes (args .records .now) (args .record-flags .now)))) (table (args .nodes .now) (args .literals .now) (args .literal-flags .now)) (args .node) (word .result) _ _ (word .ensures) refl refl (sym (is-leaf .ensures) ∙ if1 .taken)))
+    let w = c .before .before .before .before .before in
+    let args = w .before .before .before .before .before .before .before .before .before .args in
+    rw (c .leaf-may-match .ensures, c .before .record-of .ensures, c .before .before .literal-of .ensures) (sym (says-leaf (says t w) (lent t w) (args .node) (w .word .result) _ _ (w .word .ensures) refl refl (sym (c .before .before .before .before .is-leaf .ensures) ∙ c .before .before .before .if1 .taken)))
 
 returns-2 : (t : ℕ) → lts.Need-returns-2 (claims t) (here t) reads.Post
 returns-2 t c =
-    let args = c .before .before .before .before .before .before .before .before .before .before .before .before .before .before .args in
-    let word = c .before .before .before .before .before .before .before .word in
-    let is-pair = c .before .before .before .before .is-pair in
-    let if2 = c .before .before .before .if2 in
-    let word2 = c .before .before .word2 in
-    let word3 = c .before .word3 in
-    let if3 = c .if3 in
-    sym (says-broken (answer (recordOf (lookup (args .named) (args .names .now)) (boxes (args .records .now) (args .record-flags .now)))) (table (args .nodes .now) (args .literals .now) (args .literal-flags .now)) (args .node) (word .result) (word2 .result) (word3 .result) (word .ensures) (word2 .ensures) (word3 .ensures) (sym (is-pair .ensures) ∙ if2 .taken) (broken-left (args .nodes .now) (args .node) (word2 .result) (word2 .ensures) (if3 .taken)))
+    let w = c .before .before .before .before .before in
+    let args = w .before .before .before .before .before .before .before .before .before .args in
+    rw (c .may-have-z .ensures, c .before .record-of2 .ensures) (sym (says-has-z (says t w) (lent t w) (args .node) (w .word .result) _ _ (w .word .ensures) refl refl (c .before .before .if2 .taken)))
+
+-- a pair that has a child not below it
+broken : (t : ℕ) (c : lts.After-word3 (claims t) (here t) reads.Post)
+    → let w = c .before .before .before .before .before .before .before in
+    let args = w .before .before .before .before .before .before .before .before .before .args in
+    areBelow (args .nodes .now) (args .node) ≡ false → says t w (treeAt (lent t w) (args .node)) ≡ true
+broken t c h =
+    let w = c .before .before .before .before .before .before .before in
+    let args = w .before .before .before .before .before .before .before .before .before .args in
+    says-broken (says t w) (lent t w) (args .node) (w .word .result) (c .before .word2 .result) (c .word3 .result) (w .word .ensures) (c .before .word2 .ensures) (c .word3 .ensures) (sym (c .before .before .before .is-pair .ensures) ∙ c .before .before .if3 .taken) h
 
 returns-3 : (t : ℕ) → lts.Need-returns-3 (claims t) (here t) reads.Post
 returns-3 t c =
-    let args = c .before .before .before .before .before .before .before .before .before .before .before .before .before .before .before .args in
-    let word = c .before .before .before .before .before .before .before .before .word in
-    let is-pair = c .before .before .before .before .before .is-pair in
-    let if2 = c .before .before .before .before .if2 in
-    let word2 = c .before .before .before .word2 in
-    let word3 = c .before .before .word3 in
-    let if3 = c .before .if3 in
-    let if4 = c .if4 in
-    sym (says-broken (answer (recordOf (lookup (args .named) (args .names .now)) (boxes (args .records .now) (args .record-flags .now)))) (table (args .nodes .now) (args .literals .now) (args .literal-flags .now)) (args .node) (word .result) (word2 .result) (word3 .result) (word .ensures) (word2 .ensures) (word3 .ensures) (sym (is-pair .ensures) ∙ if2 .taken) (broken-right (args .nodes .now) (args .node) (word2 .result) (word3 .result) (word2 .ensures) (word3 .ensures) (if3 .left) (if4 .taken)))
-
-may-match-requires : (t : ℕ) → lts.Need-may-match-requires (claims t) (here t) reads.Post
-may-match-requires t c κs =
-    let pre = c .before .before .before .before .before .before .before .before .before .before .before .before .before .before .before .pre in
-    let word2 = c .before .before .before .word2 in
-    let if3 = c .before .if3 in
-    (subst (λ (n : ℕ). word2 .result < n) (pre .0) (if3 .left), tt)
-
-may-match-requires-2 : (t : ℕ) → lts.Need-may-match-requires-2 (claims t) (here t) reads.Post
-may-match-requires-2 t c κs =
-    let pre = c .before .before .before .before .before .before .before .before .before .before .before .before .before .before .before .before .pre in
-    let word3 = c .before .before .before .word3 in
-    let if4 = c .before .if4 in
-    (subst (λ (n : ℕ). word3 .result < n) (pre .0) (if4 .left), tt)
+    let word2 = c .before .before .word2 in
+    sym (broken t (c .before) (broken-left _ _ (word2 .result) (word2 .ensures) (c .if4 .taken)))
 
 returns-4 : (t : ℕ) → lts.Need-returns-4 (claims t) (here t) reads.Post
 returns-4 t c =
-    let args = c .before .before .before .before .before .before .before .before .before .before .before .before .before .before .before .before .before .before .args in
-    let word = c .before .before .before .before .before .before .before .before .before .before .before .word in
-    let is-pair = c .before .before .before .before .before .before .before .before .is-pair in
-    let if2 = c .before .before .before .before .before .before .before .if2 in
-    let word2 = c .before .before .before .before .before .before .word2 in
-    let word3 = c .before .before .before .before .before .word3 in
-    let if3 = c .before .before .before .before .if3 in
-    let if4 = c .before .before .before .if4 in
-    let may-match = c .before .before .may-match in
-    let may-match2 = c .before .may-match2 in
-    let both-or-either = c .both-or-either in
-    rw (both-or-either .ensures, may-match .ensures, may-match2 .ensures) (sym (says-pair (answer (recordOf (lookup (args .named) (args .names .now)) (boxes (args .records .now) (args .record-flags .now)))) (table (args .nodes .now) (args .literals .now) (args .literal-flags .now)) (args .node) (word .result) (word2 .result) (word3 .result) (word .ensures) (word2 .ensures) (word3 .ensures) (sym (is-pair .ensures) ∙ if2 .taken) (if3 .left) (if4 .left)))
+    let word2 = c .before .before .before .word2 in
+    let word3 = c .before .before .word3 in
+    sym (broken t (c .before .before) (broken-right _ _ (word2 .result) (word3 .result) (word2 .ensures) (word3 .ensures) (c .before .if4 .left) (c .if5 .taken)))
+
+may-match-requires : (t : ℕ) → lts.Need-may-match-requires (claims t) (here t) reads.Post
+may-match-requires t c κs =
+    let pre = c .before .before .before .before .before .before .before .before .before .before .before .before .before .before .before .before .before .before .pre in
+    (subst (λ (n : ℕ). c .before .before .before .word2 .result < n) (pre .0) (c .before .if4 .left), tt)
+
+may-match-requires-2 : (t : ℕ) → lts.Need-may-match-requires-2 (claims t) (here t) reads.Post
+may-match-requires-2 t c κs =
+    let pre = c .before .before .before .before .before .before .before .before .before .before .before .before .before .before .before .before .before .before .before .pre in
+    (subst (λ (n : ℕ). c .before .before .before .word3 .result < n) (pre .0) (c .before .if5 .left), tt)
 
 returns-5 : (t : ℕ) → lts.Need-returns-5 (claims t) (here t) reads.Post
 returns-5 t c =
-    let args = c .before .before .before .before .before .before .before .before .before .before .before .args in
-    let word = c .before .before .before .before .word in
-    let is-leaf = c .before .before .before .is-leaf in
-    let if1 = c .before .before .if1 in
-    let is-pair = c .before .is-pair in
-    let if2 = c .if2 in
-    sym (says-other (answer (recordOf (lookup (args .named) (args .names .now)) (boxes (args .records .now) (args .record-flags .now)))) (table (args .nodes .now) (args .literals .now) (args .literal-flags .now)) (args .node) (word .result) _ _ (word .ensures) refl refl (sym (is-leaf .ensures) ∙ if1 .left) (sym (is-pair .ensures) ∙ if2 .left) ∙ answer-other (recordOf (lookup (args .named) (args .names .now)) (boxes (args .records .now) (args .record-flags .now))) (eqb (word .result) 5))
+    let w = c .before .before .before .before .before .before .before .before .before .before .before .before in
+    let args = w .before .before .before .before .before .before .before .before .before .args in
+    let word2 = c .before .before .before .before .before .before .word2 in
+    let word3 = c .before .before .before .before .before .word3 in
+    rw (c .both-or-either .ensures, c .before .before .may-match .ensures, c .before .may-match2 .ensures) (sym (says-pair (says t w) (lent t w) (args .node) (w .word .result) (word2 .result) (word3 .result) (w .word .ensures) (word2 .ensures) (word3 .ensures) (sym (c .before .before .before .before .before .before .before .before .is-pair .ensures) ∙ c .before .before .before .before .before .before .before .if3 .taken) (c .before .before .before .before .if4 .left) (c .before .before .before .if5 .left)))
+
+returns-6 : (t : ℕ) → lts.Need-returns-6 (claims t) (here t) reads.Post
+returns-6 t c =
+    let w = c .before .before .before .before .before in
+    let args = w .before .before .before .before .before .before .before .before .before .args in
+    let other = says-other (says t w) (lent t w) (args .node) (w .word .result) _ _ (w .word .ensures) refl refl (sym (c .before .before .before .before .is-leaf .ensures) ∙ c .before .before .before .if1 .left) (sym (c .before .is-pair .ensures) ∙ c .if3 .left) in
+    sym ((rw (ne-eqb (w .word .result) 2 (c .before .before .if2 .left)) at other) ∙ answer-other _ (eqb (w .word .result) 5))
 
 pub +may-match-spec : {M : Type 1} → statement M
-+may-match-spec = close μ (λ t. lts.spec (claims t) (here t) reads.Post (λ c κs. tt) (λ c κs. tt) (λ c κs. tt) (λ c κs. tt) (λ c κs. tt) (returns t) (λ c κs. tt) (λ c κs. tt) (λ c κs. tt) (returns-2 t) (returns-3 t) (may-match-requires t) (may-match-requires-2 t) (λ c κs. tt) (returns-4 t) (returns-5 t))
++may-match-spec = close μ (λ t. lts.spec (claims t) (here t) reads.Post (λ c κs. tt) (λ c κs. tt) (λ c κs. tt) (λ c κs. tt) (λ c κs. tt) (returns t) (λ c κs. tt) (λ c κs. tt) (returns-2 t) (λ c κs. tt) (λ c κs. tt) (λ c κs. tt) (returns-3 t) (returns-4 t) (may-match-requires t) (may-match-requires-2 t) (λ c κs. tt) (returns-5 t) (returns-6 t))

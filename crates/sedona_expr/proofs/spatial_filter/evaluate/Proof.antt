@@ -1,7 +1,7 @@
 -- `spatial_filter::evaluate` meets its contract. Assumes nothing.
 use native.Mathlib.Omega.{arith}
 use borrow.Author.Tests.{eq-eqb, ne-eqb}
-use Rattle.sedona_expr.specs.Tables.{table, boxes, lookup}
+use Rattle.sedona_expr.specs.Tables.{table, records, lookup}
 use Rattle.sedona_expr.specs.Calls.{outcome}
 use Rattle.sedona_expr.proofs.Passing.{refusal-pass}
 use Rattle.sedona_expr.proofs.spatial_filter.evaluate.Statement.{statement}
@@ -13,17 +13,17 @@ returns c = rw (← c .before .refusal .ensures, ne-eqb (c .before .refusal .res
 
 sub-root : tie.Need-sub-root
 sub-root c =
-    let args = c .before .before .before .before .before .before .before .before .args in
+    let args = c .before .before .before .before .before .before .before .before .before .before .args in
     let refusal = c .before .refusal in
     let if1 = c .if1 in
-    refusal-pass (lookup (args .named) (args .names .now)) (table (args .nodes .now) (args .literals .now) (args .literal-flags .now)) (boxes (args .records .now) (args .record-flags .now)) (refusal .result) (refusal .ensures) (if1 .left) .0
+    refusal-pass (lookup (args .named) (args .names .now)) (table (args .nodes .now) (args .literals .now) (args .literal-flags .now)) (records (args .records .now) (args .record-flags .now) (args .record-types .now) (args .types-known .now)) (refusal .result) (refusal .ensures) (if1 .left) .0
 
 cast-root : tie.Need-cast-root
 cast-root c =
-    let args = c .before .before .before .before .before .before .before .before .args in
+    let args = c .before .before .before .before .before .before .before .before .before .before .args in
     let refusal = c .before .refusal in
     let if1 = c .if1 in
-    record { fits = omega (arith, refusal-pass (lookup (args .named) (args .names .now)) (table (args .nodes .now) (args .literals .now) (args .literal-flags .now)) (boxes (args .records .now) (args .record-flags .now)) (refusal .result) (refusal .ensures) (if1 .left) .1) }
+    record { fits = omega (arith, refusal-pass (lookup (args .named) (args .names .now)) (table (args .nodes .now) (args .literals .now) (args .literal-flags .now)) (records (args .records .now) (args .record-flags .now) (args .record-types .now) (args .types-known .now)) (refusal .result) (refusal .ensures) (if1 .left) .1) }
 
 returns-2 : tie.Need-returns-2
 unfolding outcome

@@ -1,0 +1,112 @@
+-- HasZ: what a fold keeps of its records' types and of their z, and which records may have z. Assumes nothing.
+use mathlib.Core.Path.{_≡_, refl, sym, _∙_}
+use mathlib.Core.Logic.{_⊎_, ⊎-elim}
+use mathlib.Core.Bool.{Bool, true, false, _&&_, _||_}
+use mathlib.Core.List.{List, [], _∷_}
+use Prim.Native.Nat.{ℕ, _<_}
+use native.Mathlib.Omega.{arith}
+use lib.Dec.{ltb}
+use borrow.Author.Tests.{ltb-true}
+use Rattle.sedona_geometry.specs.Interval as interval
+use Rattle.sedona_geometry.specs.BoundingBox.{DoublesWhereKnown, joinKnown, mergeDimensions, mergeBox}
+use Rattle.sedona_geometry.specs.Types.{has}
+use Rattle.sedona_geometry.specs.declared.interval.Interval.{Interval}
+use Rattle.sedona_geometry.specs.declared.bounding_box.Dimension as Dimension
+use Rattle.sedona_geometry.specs.declared.bounding_box.Dimension.{Dimension}
+use Rattle.sedona_geometry.proofs.Order.{fails, holds, is-true, is-false, or-right, le-refl, le-number}
+use Rattle.sedona_geometry.proofs.Accepts as plain
+use Rattle.sedona_geometry.proofs.Bits.{merge-has}
+use Rattle.sedona_expr.specs.Statistics as statistics
+use Rattle.sedona_expr.specs.Statistics.{All, mergeBboxes, mergeTypes, mergeParts, fold}
+use Rattle.sedona_expr.specs.SpatialFilter.{isZ, hasZType, mayBeZ, isKnownEmpty, hasEmptyZ, mayHaveZ}
+use Rattle.sedona_expr.specs.Demand.{HasBox, WhereKnown, lowToHigh, MissingOrRising, HasBit, Some}
+use Rattle.sedona_expr.specs.declared.statistics.Bbox as Bbox
+use Rattle.sedona_expr.specs.declared.statistics.Bbox.{Bbox}
+use Rattle.sedona_expr.specs.declared.statistics.GeometryTypes as GeometryTypes
+use Rattle.sedona_expr.specs.declared.statistics.GeometryTypes.{GeometryTypes}
+use Rattle.sedona_expr.specs.declared.statistics.GeoStatistics.{GeoStatistics}
+use Rattle.sedona_expr.specs.declared.tables.ColumnRecord.{ColumnRecord}
+use Rattle.sedona_expr.proofs.Folds.{fold-keeps}
+use Rattle.sedona_expr.proofs.Masks.{any-of}
+use Rattle.sedona_expr.proofs.Points.{ordered}
+
+all-of : {A : Type 0} (P : A → Type 0) → ((x : A) → P x) → (xs : List A) → All P xs
+all-of P f [] = tt
+all-of P f (x ∷ xs) = (f x, all-of P f xs)
+
+-- ---- types
+merge-has-bit : (k : ℕ) (s t : GeometryTypes) → HasBit k s ⊎ HasBit k t → HasBit k (mergeTypes s t)
+unfolding mergeTypes
+merge-has-bit k GeometryTypes.Missing t h = ⊎-elim (λ p. absurd p) (λ q. q) h
+merge-has-bit k (GeometryTypes.Known s) GeometryTypes.Missing h = ⊎-elim (λ p. p) (λ q. absurd q) h
+merge-has-bit k (GeometryTypes.Known s) (GeometryTypes.Known t) h =
+    merge-has s t k ∙ ⊎-elim (λ p. rw p) (λ q. is-true (has s k || has t k) (or-right (has s k) (has t k) (holds q))) h
+
+-- A fold's types are known and have every bit that a known set of its list has.
+pub fold-types : (k : ℕ) (rs : List GeoStatistics) → fold rs .number ≡ 0 → Some (λ s. HasBit k (s .«geometry_types»)) rs → HasBit k (fold rs .rec .«geometry_types»)
+unfolding mergeParts
+fold-types k rs =
+    fold-keeps (λ s. Unit {0}) (λ s. HasBit k (s .«geometry_types»)) (λ a b i j. tt) (λ a b i j. merge-has-bit k (a .«geometry_types») (b .«geometry_types»))
+    rs (all-of (λ s. Unit {0}) (λ s. tt) rs)
+
+-- ---- z
+abbrev Rising : Dimension → Type 0
+Rising = WhereKnown (λ i. lowToHigh i ≡ true)
+
+-- it runs low to high where it accepts something
+lowest : (i : Interval) → lowToHigh i ≡ true → interval.Accepts i (i .lo)
+lowest i h = plain.accepts (le-refl (le-number (ordered i h) .0)) (ordered i h)
+
+rises : {i : Interval} {v : _} → interval.Accepts i v → lowToHigh i ≡ true
+rises {i} h = is-true (lowToHigh i) (plain.accepts-low-to-high h .test)
+
+merge-rising : (d e : Dimension) → Rising d ⊎ Rising e → Rising (mergeDimensions d e)
+unfolding joinKnown
+merge-rising Dimension.Missing e h = tt
+merge-rising (Dimension.Known i) Dimension.Missing h = tt
+merge-rising (Dimension.Known i) (Dimension.Known j) h =
+    ⊎-elim (λ p. rises (plain.merge-accepts-left j (lowest i p))) (λ q. rises (plain.merge-accepts-right i (lowest j q))) h
+
+merge-z : (a b : Bbox) → HasBox MissingOrRising a ⊎ HasBox MissingOrRising b → HasBox MissingOrRising (mergeBboxes a b)
+unfolding mergeBboxes mergeBox
+merge-z Bbox.Missing b h = ⊎-elim (λ p. absurd p) (λ q. q) h
+merge-z (Bbox.Known a) Bbox.Missing h = ⊎-elim (λ p. p) (λ q. absurd q) h
+merge-z (Bbox.Known a) (Bbox.Known b) h = merge-rising (a .z) (b .z) h
+
+-- A fold's z is missing or low to high where a record of the list has it so.
+pub fold-z : (rs : List GeoStatistics) → fold rs .number ≡ 0 → Some (λ s. HasBox MissingOrRising (s .bbox)) rs → HasBox MissingOrRising (fold rs .rec .bbox)
+unfolding mergeParts
+fold-z rs =
+    fold-keeps (λ s. Unit {0}) (λ s. HasBox MissingOrRising (s .bbox)) (λ a b i j. tt) (λ a b i j. merge-z (a .bbox) (b .bbox)) rs (all-of (λ s. Unit {0}) (λ s. tt) rs)
+
+-- ---- which records may have z
+not-empty : (d : Dimension) → DoublesWhereKnown d → Rising d → isKnownEmpty d ≡ false
+unfolding isKnownEmpty
+not-empty Dimension.Missing D h = refl
+not-empty (Dimension.Known i) D h = is-false (interval.isEmpty i) (λ e. plain.empty-not-low-to-high D (is-true (interval.isEmpty i) e) (ordered i h))
+
+no-empty-z : (b : Bbox) → statistics.DoublesWhereKnown b → HasBox MissingOrRising b → hasEmptyZ b ≡ false
+unfolding hasEmptyZ
+no-empty-z Bbox.Missing D h = refl
+no-empty-z (Bbox.Known b) D h = not-empty (b .z) (D .z) h
+
+z-below : (k : ℕ) → isZ k ≡ true → k < 32
+unfolding isZ
+z-below k = go (ltb 7 k) (ltb k 16) (ltb 23 k) (ltb k 32) refl refl
+  where
+    go : (a b c d : Bool) → ltb k 16 ≡ b → ltb k 32 ≡ d → ((a && b) || (c && d)) ≡ true → k < 32
+    go a true c d e f h = omega (arith, ltb-true k 16 e)
+    go a false c true e f h = ltb-true k 32 f
+    go true false true false e f h = absurd (fails (sym h) tt)
+    go true false false false e f h = absurd (fails (sym h) tt)
+    go false false true false e f h = absurd (fails (sym h) tt)
+    go false false false false e f h = absurd (fails (sym h) tt)
+
+may-be-z : (k : ℕ) (t : GeometryTypes) → isZ k ≡ true → HasBit k t → mayBeZ t ≡ true
+unfolding mayBeZ hasZType
+may-be-z k GeometryTypes.Missing z h = absurd h
+may-be-z k (GeometryTypes.Known s) z h = any-of (λ i. isZ i && has s i) 32 k (z-below k z) (rw (z, h))
+
+pub may-have-z : (k : ℕ) (r : ColumnRecord) → statistics.DoublesWhereKnown (r .bbox) → HasBox MissingOrRising (r .bbox) → isZ k ≡ true → HasBit k (r .types) → mayHaveZ r ≡ true
+unfolding mayHaveZ
+may-have-z k r D h z b = rw (no-empty-z (r .bbox) D h) (may-be-z k (r .types) z b)
