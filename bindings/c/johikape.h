@@ -101,7 +101,7 @@ enum johikape_kind {
 /* ---- filters */
 
 /* Whether a file may have a row that the filter wants: JOHIKAPE_CANNOT_MATCH or JOHIKAPE_MAY_MATCH;
- * or the number that refuses the filter, 4 to 10. A leaf's column index picks its record. */
+ * or the number that refuses the filter, 4, 5 or 7 to 10. A leaf's column index picks its record. */
 uint32_t johikape_evaluate_by_position(const uint32_t *nodes, size_t nodes_count,
                                        const double *literals, size_t literals_count,
                                        const uint8_t *literal_flags, size_t literal_flags_count,
@@ -110,8 +110,8 @@ uint32_t johikape_evaluate_by_position(const uint32_t *nodes, size_t nodes_count
                                        const uint32_t *record_types, size_t record_types_count,
                                        const uint8_t *types_known, size_t types_known_count);
 
-/* The same; or a number from 4 to 9, or 11. A leaf's name number is sought among the names, one for
- * each record; one that is not there counts as a record without a box and without types. */
+/* The same; or 4, 5, 7 to 9 or 11. A leaf's name number is sought among the names, one for each
+ * record; one that is not there counts as a record without a box and without types. */
 uint32_t johikape_evaluate_by_name(const uint32_t *nodes, size_t nodes_count,
                                    const double *literals, size_t literals_count,
                                    const uint8_t *literal_flags, size_t literal_flags_count,
@@ -122,7 +122,7 @@ uint32_t johikape_evaluate_by_name(const uint32_t *nodes, size_t nodes_count,
                                    const uint32_t *names, size_t names_count);
 
 /* The filter's box for the column of a name number, into ends and flags: what an index scan looks
- * up. 0, or a number from 4 to 9. */
+ * up. 0, or 4, 5 or 7 to 9. */
 uint32_t johikape_filter_bbox(const uint32_t *nodes, size_t nodes_count,
                               const double *literals, size_t literals_count,
                               const uint8_t *literal_flags, size_t literal_flags_count,

@@ -343,7 +343,7 @@ def evaluate(
     `records` (item type 'd') has eight doubles a column, `record_flags` ('B') what is known of
     each, 0 where it has no box. `record_types` ('I') has a type set a column, `types_known` ('B') 1
     where it is known, else 0. With `names` ('I'), one for each record, it is by name; else by
-    position. `Refusal` 4 to 11 where the tables are no filter, or do not fit.
+    position. `Refusal` 4, 5 or 7 to 11 where the tables are no filter, or do not fit.
 
     >>> evaluate(
     ...     nodes=array("I", [0, 0, 6, 0]),

@@ -1,6 +1,6 @@
 -- HasZ: what a fold keeps of its records' types and of their z, and which records may have z. Assumes nothing.
 use mathlib.Core.Path.{_≡_, refl, sym, _∙_}
-use mathlib.Core.Logic.{_⊎_, ⊎-elim}
+use mathlib.Core.Logic.{_⊎_, inl, inr, ⊎-elim}
 use mathlib.Core.Bool.{Bool, true, false, _&&_, _||_}
 use mathlib.Core.List.{List, [], _∷_}
 use Prim.Native.Nat.{ℕ, _<_}
@@ -9,24 +9,25 @@ use lib.Dec.{ltb}
 use borrow.Author.Tests.{ltb-true}
 use Rattle.sedona_geometry.specs.Interval as interval
 use Rattle.sedona_geometry.specs.BoundingBox.{DoublesWhereKnown, joinKnown, mergeDimensions, mergeBox}
-use Rattle.sedona_geometry.specs.Types.{has}
+use Rattle.sedona_geometry.specs.Types.{merge, has}
 use Rattle.sedona_geometry.specs.declared.interval.Interval.{Interval}
 use Rattle.sedona_geometry.specs.declared.bounding_box.Dimension as Dimension
 use Rattle.sedona_geometry.specs.declared.bounding_box.Dimension.{Dimension}
+use Rattle.sedona_geometry.specs.declared.types.GeometryTypeAndDimensionsSet.{GeometryTypeAndDimensionsSet}
 use Rattle.sedona_geometry.proofs.Order.{fails, holds, is-true, is-false, or-right, le-refl, le-number}
 use Rattle.sedona_geometry.proofs.Accepts as plain
 use Rattle.sedona_geometry.proofs.Bits.{merge-has}
 use Rattle.sedona_expr.specs.Statistics as statistics
 use Rattle.sedona_expr.specs.Statistics.{All, mergeBboxes, mergeTypes, mergeParts, fold}
 use Rattle.sedona_expr.specs.SpatialFilter.{isZ, hasZType, mayBeZ, isKnownEmpty, hasEmptyZ, mayHaveZ}
-use Rattle.sedona_expr.specs.Demand.{HasBox, WhereKnown, lowToHigh, MissingOrRising, HasBit, Some}
+use Rattle.sedona_expr.specs.Demand.{HasBox, WhereKnown, lowToHigh, MissingOrRising, HasTypes, HasBit, Some}
 use Rattle.sedona_expr.specs.declared.statistics.Bbox as Bbox
 use Rattle.sedona_expr.specs.declared.statistics.Bbox.{Bbox}
 use Rattle.sedona_expr.specs.declared.statistics.GeometryTypes as GeometryTypes
 use Rattle.sedona_expr.specs.declared.statistics.GeometryTypes.{GeometryTypes}
 use Rattle.sedona_expr.specs.declared.statistics.GeoStatistics.{GeoStatistics}
 use Rattle.sedona_expr.specs.declared.tables.ColumnRecord.{ColumnRecord}
-use Rattle.sedona_expr.proofs.Folds.{fold-keeps}
+use Rattle.sedona_expr.proofs.Folds.{some-map, fold-keeps}
 use Rattle.sedona_expr.proofs.Masks.{any-of}
 use Rattle.sedona_expr.proofs.Points.{ordered}
 
@@ -35,19 +36,33 @@ all-of P f [] = tt
 all-of P f (x ∷ xs) = (f x, all-of P f xs)
 
 -- ---- types
-merge-has-bit : (k : ℕ) (s t : GeometryTypes) → HasBit k s ⊎ HasBit k t → HasBit k (mergeTypes s t)
-unfolding mergeTypes
-merge-has-bit k GeometryTypes.Missing t h = ⊎-elim (λ p. absurd p) (λ q. q) h
-merge-has-bit k (GeometryTypes.Known s) GeometryTypes.Missing h = ⊎-elim (λ p. p) (λ q. absurd q) h
-merge-has-bit k (GeometryTypes.Known s) (GeometryTypes.Known t) h =
-    merge-has s t k ∙ ⊎-elim (λ p. rw p) (λ q. is-true (has s k || has t k) (or-right (has s k) (has t k) (holds q))) h
+-- what is so of a set stays so where another is merged in
+module _ (Q : GeometryTypeAndDimensionsSet → Type 0) (keeps : (s t : GeometryTypeAndDimensionsSet) → Q s ⊎ Q t → Q (merge s t)) where
+  merge-types : (s t : GeometryTypes) → HasTypes Q s ⊎ HasTypes Q t → HasTypes Q (mergeTypes s t)
+  unfolding mergeTypes
+  merge-types GeometryTypes.Missing t h = ⊎-elim (λ p. absurd p) (λ q. q) h
+  merge-types (GeometryTypes.Known s) GeometryTypes.Missing h = ⊎-elim (λ p. p) (λ q. absurd q) h
+  merge-types (GeometryTypes.Known s) (GeometryTypes.Known t) h = keeps s t h
+
+  fold-set : (rs : List GeoStatistics) → fold rs .number ≡ 0 → Some (λ r. HasTypes Q (r .«geometry_types»)) rs → HasTypes Q (fold rs .rec .«geometry_types»)
+  unfolding mergeParts
+  fold-set rs =
+      fold-keeps (λ r. Unit {0}) (λ r. HasTypes Q (r .«geometry_types»)) (λ a b i j. tt) (λ a b i j. merge-types (a .«geometry_types») (b .«geometry_types»))
+      rs (all-of (λ r. Unit {0}) (λ r. tt) rs)
+
+merge-bit : (k : ℕ) (s t : GeometryTypeAndDimensionsSet) → (has s k ≡ true) ⊎ (has t k ≡ true) → has (merge s t) k ≡ true
+merge-bit k s t h = merge-has s t k ∙ ⊎-elim (λ p. rw p) (λ q. is-true (has s k || has t k) (or-right (has s k) (has t k) (holds q))) h
+
+pub fold-bit : (k : ℕ) (rs : List GeoStatistics) → fold rs .number ≡ 0 → Some (λ r. HasBit k (r .«geometry_types»)) rs → HasBit k (fold rs .rec .«geometry_types»)
+fold-bit k = fold-set (λ s. has s k ≡ true) (merge-bit k)
 
 -- A fold's types are known and have every bit that a known set of its list has.
-pub fold-types : (k : ℕ) (rs : List GeoStatistics) → fold rs .number ≡ 0 → Some (λ s. HasBit k (s .«geometry_types»)) rs → HasBit k (fold rs .rec .«geometry_types»)
-unfolding mergeParts
-fold-types k rs =
-    fold-keeps (λ s. Unit {0}) (λ s. HasBit k (s .«geometry_types»)) (λ a b i j. tt) (λ a b i j. merge-has-bit k (a .«geometry_types») (b .«geometry_types»))
-    rs (all-of (λ s. Unit {0}) (λ s. tt) rs)
+pub fold-types : (s : GeometryTypeAndDimensionsSet) (rs : List GeoStatistics) → fold rs .number ≡ 0 → Some (λ r. r .«geometry_types» ≡ GeometryTypes.Known s) rs
+    → HasTypes (λ t. (k : ℕ) → has s k ≡ true → has t k ≡ true) (fold rs .rec .«geometry_types»)
+fold-types s rs e h =
+    let Q : GeometryTypeAndDimensionsSet → Type 0 = λ t. (k : ℕ) → has s k ≡ true → has t k ≡ true in
+    fold-set Q (λ t u p k b. merge-bit k t u (⊎-elim (λ q. inl (q k b)) (λ q. inr (q k b)) p)) rs e
+    (some-map (λ r. r .«geometry_types» ≡ GeometryTypes.Known s) (λ r. HasTypes Q (r .«geometry_types»)) rs (λ r q. rw q (λ k b. b)) h)
 
 -- ---- z
 abbrev Rising : Dimension → Type 0

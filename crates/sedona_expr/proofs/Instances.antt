@@ -1,10 +1,17 @@
--- The hypotheses of the theorems can be met: by two records with boxes and totals, which fit; and a total that leaves its range is refused.
+-- The hypotheses of the theorems can be met: by two records with boxes and totals, which fit, one of them with types; and a total that leaves its range is refused.
 -- Assumes nothing.
 use mathlib.Core.Path.{_≡_, refl}
+use mathlib.Core.Logic.{inl}
+use mathlib.Core.Bool.{true}
 use mathlib.Core.List.{List, [], _∷_, map}
+use Prim.Native.Nat.{ℕ, _^_}
 use lib.IntN.{ℤ, pos}
+use lib.Ieee.{le, round, ofInt}
+use Rattle.sedona_geometry.specs.Types.{fromBits, has}
+use Rattle.sedona_geometry.specs.declared.types.GeometryTypeAndDimensionsSet.{GeometryTypeAndDimensionsSet}
 use Rattle.sedona_geometry.proofs.Instances as boxes
 use Rattle.sedona_expr.specs.Statistics.{leaves, most, sumLeaves, totalsOverflow, countsOverflow, mergeValue, step, foldFrom, fold, All, DoublesWhereKnown, NoLess, Which, points, total, PrefixSumsFit, Tree, leaf, node, mergeTree, mergeAnswers, AllLeaves, empty}
+use Rattle.sedona_expr.specs.Demand.{HasBox, MissingOrRising, HasTypes}
 use Rattle.sedona_expr.specs.declared.statistics.Bbox as Bbox
 use Rattle.sedona_expr.specs.declared.statistics.Bbox.{Bbox}
 use Rattle.sedona_expr.specs.declared.statistics.GeometryTypes as GeometryTypes
@@ -12,6 +19,7 @@ use Rattle.sedona_expr.specs.declared.statistics.GeometryTypes.{Geometry
 use Rattle.sedona_expr.specs.declared.statistics.Total as Total
 use Rattle.sedona_expr.specs.declared.statistics.Total.{Total}
 use Rattle.sedona_expr.specs.declared.statistics.GeoStatistics.{GeoStatistics}
+use Rattle.sedona_expr.proofs.HasZ.{fold-types, fold-z}
 use Rattle.sedona_expr.proofs.Theorems as theorems
 
 -- No geometries but in a box, of these types, and some points.
@@ -30,8 +38,12 @@ reading c t n = record {
   «total_envelope_height» = empty .«total_envelope_height»;
 }
 
+-- The set of one type, a point with z.
+abbrev pub point-z : GeometryTypeAndDimensionsSet
+point-z = fromBits (2 ^ 9)
+
 abbrev pub first : GeoStatistics
-first = reading (Bbox.Known boxes.a) GeometryTypes.Missing (pos 3)
+first = reading (Bbox.Known boxes.a) (GeometryTypes.Known point-z) (pos 3)
 
 abbrev pub second : GeoStatistics
 second = reading (Bbox.Known boxes.b) GeometryTypes.Missing (pos 4)
@@ -51,6 +63,13 @@ no-less = theorems.no-box-shrinks records doubles fits
 
 pub points-are-seven : total points (fold records .rec) ≡ Total.Known (pos 7)
 points-are-seven = theorems.totals-are-sums points first (second ∷ []) fits
+
+pub types-are-kept : HasTypes (λ t. (k : ℕ) → has point-z k ≡ true → has t k ≡ true) (fold records .rec .«geometry_types»)
+types-are-kept = fold-types point-z records fits (inl refl)
+
+pub z-is-kept : HasBox MissingOrRising (fold records .rec .bbox)
+unfolding le round ofInt
+z-is-kept = fold-z records fits (inl refl)
 
 pub points-fit : (w : Which) → PrefixSumsFit (total w first) (map (total w) (second ∷ []))
 points-fit = theorems.not-refused-fit first (second ∷ []) fits

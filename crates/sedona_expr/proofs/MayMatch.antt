@@ -19,7 +19,7 @@ use Rattle.sedona_expr.specs.declared.statistics.Bbox.{Bbox}
 use Rattle.sedona_expr.specs.declared.statistics.GeoStatistics.{GeoStatistics}
 use Rattle.sedona_expr.specs.declared.tables.ColumnRecord.{ColumnRecord}
 use Rattle.sedona_expr.proofs.Folds.{some-map, fold-keeps}
-use Rattle.sedona_expr.proofs.HasZ.{fold-types, fold-z, may-have-z}
+use Rattle.sedona_expr.proofs.HasZ.{fold-bit, fold-z, may-have-z}
 use Rattle.sedona_expr.proofs.Points.{ordered}
 use Rattle.sedona_expr.proofs.StraightBoxes.{StraightBox, Unwrapped, straight-where, Holding, fold-holding}
 use Rattle.sedona_expr.proofs.Theorems.{merge-doubles, no-box-shrinks}
@@ -100,7 +100,7 @@ module _ {f : Leaf} {rs : List GeoStatistics} {own : Cell} {lent : ColumnRecord}
 fold-has-z : {rs : List GeoStatistics} {own : Cell} {lent : ColumnRecord} → Folds aHasZ rs own lent → HoldsZ own → mayHaveZ lent ≡ true
 fold-has-z {rs} {own} {lent} F h =
     let z : HasBox MissingOrRising (lent .bbox) = rw (F .folded) (fold-z rs (F .fit) (some-own (HasBox MissingOrRising) rs (h .z) (own-box F))) in
-    let t : HasBit (own .bit) (lent .types) = rw (F .folded) (fold-types (own .bit) rs (F .fit) (some-map _ (λ s. HasBit (own .bit) (s .«geometry_types»)) rs (λ s a. a .1 h) (F .among))) in
+    let t : HasBit (own .bit) (lent .types) = rw (F .folded) (fold-bit (own .bit) rs (F .fit) (some-map _ (λ s. HasBit (own .bit) (s .«geometry_types»)) rs (λ s a. a .1 h) (F .among))) in
     may-have-z (own .bit) lent (fold-doubles F) z (h .type) t
 
 -- ---- the whole filter

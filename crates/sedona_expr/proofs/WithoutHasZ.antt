@@ -1,10 +1,11 @@
 -- Filters without HasZ answer as they did: by boxes alone, whatever the types. Assumes nothing.
-use mathlib.Core.Path.{_≡_, refl, sym, _∙_}
-use mathlib.Core.List.{List}
-use Prim.Native.Nat.{ℕ}
+use mathlib.Core.Path.{_≡_, refl, sym, ap, _∙_}
+use mathlib.Core.List.{List, [], _∷_}
+use lib.IntN.{pos}
+use lib.Ieee.{Float, binary64, ofInt}
 use lib.ListN.{length}
 use Rattle.sedona_expr.specs.SpatialFilter.{Column, Filter, intersects, covers, hasZ, and, or, literalFalse, unknown, answer}
-use Rattle.sedona_expr.specs.Tables.{Boxes, Records, Table, root, Lookup, recordOf}
+use Rattle.sedona_expr.specs.Tables.{Records, records, Table, table, leafOf, pairOf, areBelow, treeOf, treeAt, root, Lookup, byPosition, recordOf}
 use Rattle.sedona_expr.specs.Refusals.{orElse, typesRefusal, recordsRefusal, refusal}
 use Rattle.sedona_expr.specs.Calls.{outcome, evaluate}
 use Rattle.sedona_expr.specs.WithoutHasZ.{NoHasZ, answerByBoxes, refusalByBoxes, evaluateByBoxes}
@@ -34,7 +35,18 @@ pub evaluate-by-boxes : (l : Lookup) (t : Table) (r : Records) → NoHasZ (root 
 evaluate-by-boxes l t r n p = rw (refusal-by-boxes l t r p, answer-by-boxes (recordOf l r) (root t) n)
 
 -- So its answer does not depend on the types.
-pub types-unread : (l : Lookup) (t : Table) (b : Boxes) (ts ks us js : List ℕ) → NoHasZ (root t)
-    → Pass (record { boxes = b; types = ts; known = ks }) → Pass (record { boxes = b; types = us; known = js })
-    → _≡_ {A = Evaluation} (evaluate l t (record { boxes = b; types = ts; known = ks })) (evaluate l t (record { boxes = b; types = us; known = js }))
-types-unread l t b ts ks us js n p q = evaluate-by-boxes l t _ n p ∙ sym (evaluate-by-boxes l t _ n q)
+pub types-unread : (l : Lookup) (t : Table) (r s : Records) → r .boxes ≡ s .boxes → NoHasZ (root t) → Pass r → Pass s
+    → _≡_ {A = Evaluation} (evaluate l t r) (evaluate l t s)
+types-unread l t r s e n p q = evaluate-by-boxes l t r n p ∙ ap (evaluateByBoxes l t) e ∙ sym (evaluate-by-boxes l t s n q)
+
+-- ---- the hypotheses can be met
+-- An Or of an Intersects and an Unknown, held against a record that knows its types and against one that does not.
+abbrev zeros : List Float
+zeros = let z = ofInt binary64 (pos 0) in z ∷ z ∷ z ∷ z ∷ z ∷ z ∷ z ∷ z ∷ []
+
+abbrev t : Table
+t = table (0 ∷ 0 ∷ 0 ∷ 0 ∷ 6 ∷ 0 ∷ 0 ∷ 0 ∷ 4 ∷ 0 ∷ 1 ∷ 0 ∷ []) zeros (1 ∷ [])
+
+pub of-two : _≡_ {A = Evaluation} (evaluate byPosition t (records zeros (1 ∷ []) (0x200 ∷ []) (1 ∷ []))) (evaluate byPosition t (records zeros (1 ∷ []) (0 ∷ []) (0 ∷ [])))
+unfolding typesRefusal leafOf pairOf areBelow treeOf treeAt
+of-two = types-unread byPosition t _ _ refl (tt, tt) refl refl

@@ -17,6 +17,7 @@ use Rattle.sedona_geometry.specs.declared.interval.Interval.{Interval}
 use Rattle.sedona_geometry.specs.declared.bounding_box.Dimension.{Dimension}
 use Rattle.sedona_geometry.specs.declared.bounding_box.Dimension as Dimension
 use Rattle.sedona_geometry.specs.declared.bounding_box.BoundingBox.{BoundingBox}
+use Rattle.sedona_geometry.specs.declared.types.GeometryTypeAndDimensionsSet.{GeometryTypeAndDimensionsSet}
 use Rattle.sedona_expr.specs.Statistics.{All, fold}
 use Rattle.sedona_expr.specs.Statistics as statistics
 use Rattle.sedona_expr.specs.SpatialFilter.{Column, Filter, intersects, covers, hasZ, and, or, literalFalse, unknown, isZ}
@@ -34,8 +35,8 @@ use Rattle.sedona_expr.specs.declared.spatial_filter.Evaluation.{Evaluat
 
 -- ---- rows and filters
 
--- "A row gives each named column a box, its own box there; any other column has a box of it or none." And it gives it the bit of its type,
--- 0 to 31.
+-- "A row gives each named column a box, its own box there; any other column has a box of it or none." Beside the box stands the bit of its type,
+-- 0 to 31. (A number past them is no type's, and a HasZ does not hold of it.)
 pub record Cell : Type 0 where
   pub bbox : Bbox
   pub bit : ℕ
@@ -109,10 +110,14 @@ abbrev pub Some : {A : Type 0} → (A → Type 0) → List A → Type 0
 Some P [] = ⊥
 Some P (x ∷ xs) = P x ⊎ Some P xs
 
+-- The types are known, and this is so of their set.
+abbrev pub HasTypes : (GeometryTypeAndDimensionsSet → Type 0) → GeometryTypes → Type 0
+HasTypes P GeometryTypes.Missing = ⊥
+HasTypes P (GeometryTypes.Known s) = P s
+
 -- "a known type set with its type's bit"
 abbrev pub HasBit : ℕ → GeometryTypes → Type 0
-HasBit k GeometryTypes.Missing = ⊥
-HasBit k (GeometryTypes.Known s) = types.has s k ≡ true
+HasBit k = HasTypes (λ s. types.has s k ≡ true)
 
 -- What a record of the row has beside the row's box: "in a column where a HasZ leaf holds of the row, demand 3 asks this record of the list and
 -- not the box alone".
