@@ -1,4 +1,4 @@
--- What a fold of records is where it is not refused, and where it is refused. Assumes nothing.
+-- What a fold of records is where it is not refused, where it is refused, and what it keeps of its records. Assumes nothing.
 use mathlib.Core.Logic.{_⊎_, inl, inr, ⊎-elim}
 use mathlib.Core.Path.{_≡_, refl, sym, subst, ap, _∙_}
 use mathlib.Core.Bool.{Bool, true, false, _||_}
