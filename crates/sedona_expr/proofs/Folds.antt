@@ -100,3 +100,12 @@ module _ (I P : GeoStatistics → Type 0) (both : (a b : GeoStatistics) → I a 
   fold-keeps (r ∷ rs) h e p =
       let f = fits-of-fold r rs (rw (fold-first r rs) at e) in
       subst (λ (g : Folded). P (g .rec)) (sym (fold-first r rs ∙ fold-of-fits r rs f)) (merged-keeps r rs (h .0) (h .1) p)
+
+all-any : (rs : List GeoStatistics) → All (λ r. Unit {0}) rs
+all-any [] = tt
+all-any (r ∷ rs) = (tt, all-any rs)
+
+-- the same where merging keeps it of any two records
+pub fold-keeps-any : (P : GeoStatistics → Type 0) → ((a b : GeoStatistics) → P a ⊎ P b → P (mergeParts a b))
+    → (rs : List GeoStatistics) → fold rs .number ≡ 0 → Some P rs → P (fold rs .rec)
+fold-keeps-any P either rs = fold-keeps (λ r. Unit {0}) P (λ a b i j. tt) (λ a b i j. either a b) rs (all-any rs)

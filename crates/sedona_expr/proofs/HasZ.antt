@@ -1,11 +1,12 @@
 -- HasZ: what a fold keeps of its records' types and of their z, and which records may have z. Assumes nothing.
-use mathlib.Core.Path.{_≡_, refl, sym, _∙_}
+use mathlib.Core.Path.{_≡_, refl, _∙_}
 use mathlib.Core.Logic.{_⊎_, inl, inr, ⊎-elim}
-use mathlib.Core.Bool.{Bool, true, false, _&&_, _||_}
-use mathlib.Core.List.{List, [], _∷_}
+use mathlib.Core.Bool.{true, false, _&&_, _||_}
+use mathlib.Core.List.{List}
 use Prim.Native.Nat.{ℕ, _<_}
 use native.Mathlib.Omega.{arith}
 use lib.Dec.{ltb}
+use lib.Ieee.Fits.{and-r}
 use borrow.Author.Tests.{ltb-true}
 use Rattle.sedona_geometry.specs.Interval as interval
 use Rattle.sedona_geometry.specs.BoundingBox.{DoublesWhereKnown, joinKnown, mergeDimensions, mergeBox}
@@ -14,11 +15,11 @@ use Rattle.sedona_geometry.specs.declared.interval.Interval.{Interval}
 use Rattle.sedona_geometry.specs.declared.bounding_box.Dimension as Dimension
 use Rattle.sedona_geometry.specs.declared.bounding_box.Dimension.{Dimension}
 use Rattle.sedona_geometry.specs.declared.types.GeometryTypeAndDimensionsSet.{GeometryTypeAndDimensionsSet}
-use Rattle.sedona_geometry.proofs.Order.{fails, holds, is-true, is-false, or-right, le-refl, le-number}
+use Rattle.sedona_geometry.proofs.Order.{holds, is-true, is-false, or-right, or-cases, le-refl, le-number}
 use Rattle.sedona_geometry.proofs.Accepts as plain
 use Rattle.sedona_geometry.proofs.Bits.{merge-has}
 use Rattle.sedona_expr.specs.Statistics as statistics
-use Rattle.sedona_expr.specs.Statistics.{All, mergeBboxes, mergeTypes, mergeParts, fold}
+use Rattle.sedona_expr.specs.Statistics.{mergeBboxes, mergeTypes, mergeParts, fold}
 use Rattle.sedona_expr.specs.SpatialFilter.{isZ, hasZType, mayBeZ, isKnownEmpty, hasEmptyZ, mayHaveZ}
 use Rattle.sedona_expr.specs.Demand.{HasBox, WhereKnown, lowToHigh, MissingOrRising, HasTypes, HasBit, Some}
 use Rattle.sedona_expr.specs.declared.statistics.Bbox as Bbox
@@ -27,13 +28,9 @@ use Rattle.sedona_expr.specs.declared.statistics.GeometryTypes as Geomet
 use Rattle.sedona_expr.specs.declared.statistics.GeometryTypes.{GeometryTypes}
 use Rattle.sedona_expr.specs.declared.statistics.GeoStatistics.{GeoStatistics}
 use Rattle.sedona_expr.specs.declared.tables.ColumnRecord.{ColumnRecord}
-use Rattle.sedona_expr.proofs.Folds.{some-map, fold-keeps}
+use Rattle.sedona_expr.proofs.Folds.{some-map, fold-keeps-any}
 use Rattle.sedona_expr.proofs.Masks.{any-of}
 use Rattle.sedona_expr.proofs.Points.{ordered}
-
-all-of : {A : Type 0} (P : A → Type 0) → ((x : A) → P x) → (xs : List A) → All P xs
-all-of P f [] = tt
-all-of P f (x ∷ xs) = (f x, all-of P f xs)
 
 -- ---- types
 -- what is so of a set stays so where another is merged in
@@ -46,9 +43,7 @@ module _ (Q : GeometryTypeAndDimensionsSet → Type 0) (keeps : (s t : GeometryT
 
   fold-set : (rs : List GeoStatistics) → fold rs .number ≡ 0 → Some (λ r. HasTypes Q (r .«geometry_types»)) rs → HasTypes Q (fold rs .rec .«geometry_types»)
   unfolding mergeParts
-  fold-set rs =
-      fold-keeps (λ r. Unit {0}) (λ r. HasTypes Q (r .«geometry_types»)) (λ a b i j. tt) (λ a b i j. merge-types (a .«geometry_types») (b .«geometry_types»))
-      rs (all-of (λ r. Unit {0}) (λ r. tt) rs)
+  fold-set = fold-keeps-any (λ r. HasTypes Q (r .«geometry_types»)) (λ a b. merge-types (a .«geometry_types») (b .«geometry_types»))
 
 merge-bit : (k : ℕ) (s t : GeometryTypeAndDimensionsSet) → (has s k ≡ true) ⊎ (has t k ≡ true) → has (merge s t) k ≡ true
 merge-bit k s t h = merge-has s t k ∙ ⊎-elim (λ p. rw p) (λ q. is-true (has s k || has t k) (or-right (has s k) (has t k) (holds q))) h
@@ -91,8 +86,7 @@ merge-z (Bbox.Known a) (Bbox.Known b) h = merge-rising (a .z) (b .z) h
 -- A fold's z is missing or low to high where a record of the list has it so.
 pub fold-z : (rs : List GeoStatistics) → fold rs .number ≡ 0 → Some (λ s. HasBox MissingOrRising (s .bbox)) rs → HasBox MissingOrRising (fold rs .rec .bbox)
 unfolding mergeParts
-fold-z rs =
-    fold-keeps (λ s. Unit {0}) (λ s. HasBox MissingOrRising (s .bbox)) (λ a b i j. tt) (λ a b i j. merge-z (a .bbox) (b .bbox)) rs (all-of (λ s. Unit {0}) (λ s. tt) rs)
+fold-z = fold-keeps-any (λ s. HasBox MissingOrRising (s .bbox)) (λ a b. merge-z (a .bbox) (b .bbox))
 
 -- ---- which records may have z
 not-empty : (d : Dimension) → DoublesWhereKnown d → Rising d → isKnownEmpty d ≡ false
@@ -107,15 +101,9 @@ no-empty-z (Bbox.Known b) D h = not-empty (b .z) (D .z) h
 
 z-below : (k : ℕ) → isZ k ≡ true → k < 32
 unfolding isZ
-z-below k = go (ltb 7 k) (ltb k 16) (ltb 23 k) (ltb k 32) refl refl
-  where
-    go : (a b c d : Bool) → ltb k 16 ≡ b → ltb k 32 ≡ d → ((a && b) || (c && d)) ≡ true → k < 32
-    go a true c d e f h = omega (arith, ltb-true k 16 e)
-    go a false c true e f h = ltb-true k 32 f
-    go true false true false e f h = absurd (fails (sym h) tt)
-    go true false false false e f h = absurd (fails (sym h) tt)
-    go false false true false e f h = absurd (fails (sym h) tt)
-    go false false false false e f h = absurd (fails (sym h) tt)
+z-below k h =
+    ⊎-elim (λ p. omega (arith, ltb-true k 16 (is-true (ltb k 16) (and-r (ltb 7 k) (ltb k 16) p)))) (λ q. ltb-true k 32 (is-true (ltb k 32) (and-r (ltb 23 k) (ltb k 32) q)))
+    (or-cases (ltb 7 k && ltb k 16) (ltb 23 k && ltb k 32) (holds h))
 
 may-be-z : (k : ℕ) (t : GeometryTypes) → isZ k ≡ true → HasBit k t → mayBeZ t ≡ true
 unfolding mayBeZ hasZType
