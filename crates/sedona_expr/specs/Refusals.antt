@@ -35,7 +35,7 @@ goodFlag none f = cond (eqb f 0) none (eqb f 1 || eqb f 3 || eqb f 5 || eqb f 7)
 unfoldable pub boxesRefusal : Bool → Boxes → ℕ
 boxesRefusal none b = when (not (eqb (length (b .doubles)) (8 * length (b .flags))) || not (all (goodFlag none) (b .flags))) error.boxes
 
--- 8: types or known bytes not as many as the records, or a byte that is not 0 or 1.
+-- 8: types or known bytes "unlike the record count", or a byte that is not "0 or 1".
 unfoldable pub typesRefusal : List ℕ → List ℕ → ℕ → ℕ
 typesRefusal ts ks records = when (not (eqb (length ts) records) || not (eqb (length ks) records) || not (all (λ b. ltb b 2) ks)) error.boxes
 

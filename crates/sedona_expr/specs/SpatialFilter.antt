@@ -38,7 +38,7 @@ unfoldable pub mayCover : Bbox → BoundingBox → Bool
 mayCover Bbox.Missing k = true
 mayCover (Bbox.Known b) k = boundingBox.contains b k
 
--- The type of bit k has z: 8 to 15 with z alone, 24 to 31 with z and m.
+-- "8 to 15 or 24 to 31": the bits of the types with z alone, and with z and m.
 unfoldable pub isZ : ℕ → Bool
 isZ k = (ltb 7 k && ltb k 16) || (ltb 23 k && ltb k 32)
 
@@ -47,26 +47,26 @@ abbrev pub anyBelow : (ℕ → Bool) → ℕ → Bool
 anyBelow p zero = false
 anyBelow p (suc n) = anyBelow p n || p n
 
--- The set has a type with z.
+-- "a set bit is in 8 to 15 or 24 to 31"
 unfoldable pub hasZType : GeometryTypeAndDimensionsSet → Bool
 hasZType s = anyBelow (λ k. isZ k && types.has s k) 32
 
--- The types have one with z; true where they are missing.
+-- "with types known, true exactly if" that is so; "else true".
 unfoldable pub mayBeZ : GeometryTypes → Bool
 mayBeZ GeometryTypes.Missing = true
 mayBeZ (GeometryTypes.Known s) = hasZType s
 
--- It is known and empty.
+-- A z is "known and empty".
 unfoldable pub isKnownEmpty : Dimension → Bool
 isKnownEmpty Dimension.Missing = false
 isKnownEmpty (Dimension.Known i) = interval.isEmpty i
 
--- The record's z is.
+-- The record's z is. (It has none where it has no box.)
 unfoldable pub hasEmptyZ : Bbox → Bool
 hasEmptyZ Bbox.Missing = false
 hasEmptyZ (Bbox.Known b) = isKnownEmpty (b .z)
 
--- False where z is known and empty; else as the types say.
+-- "false where the record's z is known and empty; else" as the types say.
 unfoldable pub mayHaveZ : ColumnRecord → Bool
 mayHaveZ r = cond (hasEmptyZ (r .bbox)) false (mayBeZ (r .types))
 
