@@ -9,6 +9,7 @@ pub mod Marks
 pub mod Masks
 pub mod MayMatch
 pub mod Needed
+pub mod Numbers
 pub mod Passing
 pub mod Points
 pub mod Reaches

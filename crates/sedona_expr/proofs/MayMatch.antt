@@ -96,8 +96,8 @@ module _ {f : Leaf} {rs : List GeoStatistics} {own : Cell} {lent : ColumnRecord}
       let both : (a b : GeoStatistics) → D a → D b → D (mergeParts a b) = λ a b. merge-doubles (a .bbox) (b .bbox) in
       rw (F .folded) (fold-keeps D D both (λ a b i j e. both a b i j) rs (F .doubles) (F .fit) (some-own DoublesWhereKnown rs (of-own DoublesWhereKnown rs (F .doubles) own-box) own-box))
 
--- a HasZ that holds of the row: z and the type's bit stay in the fold
-fold-has-z : {rs : List GeoStatistics} {own : Cell} {lent : ColumnRecord} → Folds aHasZ rs own lent → HoldsZ own → mayHaveZ lent ≡ true
+-- A row of which HasZ holds "stays 'may match' in any fold that has its record": its z and its type's bit stay there.
+pub fold-has-z : {rs : List GeoStatistics} {own : Cell} {lent : ColumnRecord} → Folds aHasZ rs own lent → HoldsZ own → mayHaveZ lent ≡ true
 fold-has-z {rs} {own} {lent} F h =
     let z : HasBox MissingOrRising (lent .bbox) = rw (F .folded) (fold-z rs (F .fit) (some-own (HasBox MissingOrRising) rs (h .z) (own-box F))) in
     let t : HasBit (own .bit) (lent .types) = rw (F .folded) (fold-bit (own .bit) rs (F .fit) (some-map _ (λ s. HasBit (own .bit) (s .«geometry_types»)) rs (λ s a. a .1 h) (F .among))) in

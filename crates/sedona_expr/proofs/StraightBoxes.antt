@@ -1,7 +1,7 @@
 -- Boxes whose x runs straight, empty or low to high: merging and intersecting keep them so, and a fold of them contains what one of its records
 -- contains. Assumes nothing.
 use mathlib.Core.Path.{_≡_, refl}
-use mathlib.Core.Logic.{_⊎_, inl, inr, ⊎-elim}
+use mathlib.Core.Logic.{_⊎_, ⊎-elim}
 use mathlib.Core.Bool.{true, false}
 use mathlib.Core.List.{List}
 use lib.Ieee.{eq, sub}

@@ -7,7 +7,7 @@ use lib.ListN.{length}
 use Rattle.sedona_expr.specs.SpatialFilter.{Column, Filter, intersects, covers, hasZ, and, or, literalFalse, unknown, answer}
 use Rattle.sedona_expr.specs.Tables.{Records, records, Table, table, leafOf, pairOf, areBelow, treeOf, treeAt, root, Lookup, byPosition, recordOf}
 use Rattle.sedona_expr.specs.Refusals.{orElse, typesRefusal, recordsRefusal, refusal}
-use Rattle.sedona_expr.specs.Calls.{outcome, evaluate}
+use Rattle.sedona_expr.specs.Calls.{evaluate}
 use Rattle.sedona_expr.specs.WithoutHasZ.{NoHasZ, answerByBoxes, refusalByBoxes, evaluateByBoxes}
 use Rattle.sedona_expr.specs.declared.spatial_filter.Evaluation.{Evaluation}
 use Rattle.sedona_expr.specs.declared.tables.ColumnRecord.{ColumnRecord}

@@ -1,5 +1,5 @@
 -- `refusals::column_refusal` meets its contract. Assumes nothing.
-use borrow.Author.Tests.{not-true, not-false, lt-ltb, le-ltb}
+use borrow.Author.Tests.{lt-ltb, le-ltb}
 use Rattle.sedona_expr.specs.Refusals.{isLent, columnRefusal}
 use borrow.Author.Needs.{needs}
 use Rattle.sedona_expr.proofs.refusals.column_refusal.Statement.{statement}
