@@ -3,6 +3,7 @@
 -- column, for which no record is lent; for column 0 three records, one of them without a box and types and one wrapped; and for column 1 two
 -- records without types. Assumes nothing.
 use mathlib.Core.Path.{_≡_, refl, sym}
+use mathlib.Core.Bool.{true}
 use mathlib.Core.Logic.{inl, inr}
 use mathlib.Core.List.{List, [], _∷_}
 use Prim.Native.Nat.{ℕ, zero, suc, _^_}
@@ -19,17 +20,18 @@ use Rattle.sedona_geometry.specs.declared.bounding_box.Dimension.{Dimension}
 use Rattle.sedona_geometry.specs.declared.bounding_box.BoundingBox.{BoundingBox}
 use Rattle.sedona_geometry.proofs.Order.{fails}
 use Rattle.sedona_expr.specs.Statistics as statistics
-use Rattle.sedona_expr.specs.SpatialFilter.{isZ}
+use Rattle.sedona_expr.specs.SpatialFilter.{isZ, mayHaveZ}
 use Rattle.sedona_expr.specs.Tables as tables
 use Rattle.sedona_expr.specs.Refusals as refusals
 use Rattle.sedona_expr.specs.Tables.{Records, Table, Lookup, byPosition, byName}
-use Rattle.sedona_expr.specs.Demand.{Row, WhereBox, Leaf, Beside, Folds, Wanted, Each, isPoint, Numbers, Pointed, MayMatch, Reaches}
+use Rattle.sedona_expr.specs.Demand.{Row, WhereBox, Leaf, aHasZ, Beside, Folds, Wanted, Each, isPoint, Numbers, Pointed, MayMatch, Reaches}
 use Rattle.sedona_expr.specs.declared.statistics.Bbox as Bbox
 use Rattle.sedona_expr.specs.declared.statistics.Bbox.{Bbox}
 use Rattle.sedona_expr.specs.declared.statistics.GeometryTypes as GeometryTypes
 use Rattle.sedona_expr.specs.declared.statistics.GeometryTypes.{GeometryTypes}
 use Rattle.sedona_expr.specs.declared.statistics.GeoStatistics.{GeoStatistics}
 use Rattle.sedona_expr.proofs.Instances.{reading}
+use Rattle.sedona_expr.proofs.MayMatch.{fold-has-z}
 use Rattle.sedona_expr.proofs.Searches.{once-differ}
 use Rattle.sedona_expr.proofs.Demand3.{demand-3}
 
@@ -139,6 +141,11 @@ folds-1 f h = record {
   fit = refl;
   folded = refl;
 }
+
+-- A HasZ of column 0 by itself: it holds of the row, and the fold has the row's record.
+pub deep-row-stays : mayHaveZ (tables.recordAt r 0) ≡ true
+unfolding isZ le round ofInt
+deep-row-stays = fold-has-z (folds-0 aHasZ (λ h. refl)) (record { z = refl; type = refl })
 
 -- ---- the row
 row-doubles : (i : ℕ) → WhereBox boundingBox.Doubles (row i .bbox)
