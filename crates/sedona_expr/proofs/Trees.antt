@@ -54,15 +54,6 @@ pub pair-or : {A : Type 0} (k : ℕ) (a b : A) → (k ≡ 3 → ⊥) → pairOf 
 unfolding pairOf
 pair-or k a b e = rw (ne-eqb k 3 e)
 
--- which kinds are an Intersects or a Covers
-pub leaf-kind : (k : ℕ) → k ≤ 2 → (k ≡ 2 → ⊥) → isLeaf k ≡ true
-leaf-kind zero h n = refl
-leaf-kind (suc zero) h n = refl
-leaf-kind (suc (suc k)) h n = absurd (n (omega arith))
-
-pub no-leaf-kind : (k : ℕ) → 2 < k → isLeaf k ≡ false
-no-leaf-kind k h = rw (ne-eqb k 0 (λ e. absurd (omega arith)), ne-eqb k 1 (λ e. absurd (omega arith)))
-
 -- a pair is no leaf
 pair-no-leaf : (k : ℕ) → isPair k ≡ true → (isLeaf k ≡ false) × (eqb k 2 ≡ false)
 pair-no-leaf k = go (eqb k 3) (eqb k 4) refl refl

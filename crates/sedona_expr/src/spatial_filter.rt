@@ -142,7 +142,8 @@ fn may_match(
     ensures { λ r. ⌜ r ≡ filter.answer (tables.recordOf (tables.lookup named (now (names .entry))) (tables.records (now (records .entry)) (now («record_flags» .entry)) (now («record_types» .entry)) (now («types_known» .entry)))) (tables.treeAt (tables.table (now (nodes .entry)) (now (literals .entry)) (now («literal_flags» .entry))) node) ⌝ }
 {
     let kind = word(nodes, node, 0);
-    if kind <= HAS_Z {
+    if is_leaf(kind) {
+        let k = literal_of(nodes, literals, literal_flags, node);
         let seen = record_of(
             nodes,
             records,
@@ -153,12 +154,21 @@ fn may_match(
             names,
             node,
         );
-        if kind == HAS_Z {
-            return may_have_z(seen);
-        }
-        let k = literal_of(nodes, literals, literal_flags, node);
         let bbox = seen.bbox;
         return leaf_may_match(kind, bbox, k);
+    }
+    if kind == HAS_Z {
+        let seen = record_of(
+            nodes,
+            records,
+            record_flags,
+            record_types,
+            types_known,
+            named,
+            names,
+            node,
+        );
+        return may_have_z(seen);
     }
     if is_pair(kind) {
         let left = word(nodes, node, 1);

@@ -19,7 +19,7 @@ use sedona_geometry::interval::Interval;
 use sedona_geometry::interval::WraparoundInterval;
 use sedona_geometry::types::GeometryTypeAndDimensionsSet;
 
-// The kinds of nodes. Those up to HAS_Z name a column. An Unknown, 6, is the last of them.
+// The kinds of nodes. An Unknown, 6, is the last of them.
 pub(crate) const INTERSECTS: u32 = 0;
 
 pub(crate) const COVERS: u32 = 1;

@@ -1,12 +1,11 @@
 -- The proof of the cycle of calls {may_match}: the node number falls. Assumes nothing.
 use mathlib.Core.Path.{_≡_, refl, sym, subst, _∙_}
 use mathlib.Core.Bool.{Bool, true, false}
-use native.Mathlib.Omega.{arith}
 use lib.Dec.{eqb}
 use borrow.Author.Tests.{ne-eqb}
 use Rattle.sedona_expr.specs.SpatialFilter.{Filter, answer}
 use Rattle.sedona_expr.specs.Tables.{Table, table, records, lookup, recordOf, treeAt, areBelow}
-use Rattle.sedona_expr.proofs.Trees.{leaf-kind, no-leaf-kind, says-leaf, says-has-z, says-pair, says-broken, says-other, broken-left, broken-right, answer-other}
+use Rattle.sedona_expr.proofs.Trees.{says-leaf, says-has-z, says-pair, says-broken, says-other, broken-left, broken-right, answer-other}
 use Prim.Native.Nat.{ℕ, _<_}
 use borrow.Fn.Kinds.{In}
 use borrow.Fn.PlainCycle.{Measures, is, falls, and}
@@ -14,6 +13,7 @@ use Rattle.sedona_expr.proofs.spatial_filter.may_match.Reads as reads
 use Rattle.sedona_expr.proofs.spatial_filter.may_match.Kinds as kinds
 use Rattle.sedona_expr.proofs.spatial_filter.+may_match.Lts-may_match as lts
 use Rattle.sedona_expr.proofs.spatial_filter.both_or_either.Reads as both-or-either-reads
+use Rattle.sedona_expr.proofs.tables.is_leaf.Reads as is-leaf-reads
 use Rattle.sedona_expr.proofs.tables.is_pair.Reads as is-pair-reads
 use Rattle.sedona_expr.proofs.spatial_filter.leaf_may_match.Reads as leaf-may-match-reads
 use Rattle.sedona_expr.proofs.spatial_filter.may_have_z.Reads as may-have-z-reads
@@ -34,7 +34,7 @@ abbrev below : ℕ → In 8 kinds.ps
 below t = and 8 kinds.ps (falls 8 kinds.ps _<_ μ t) reads.Pre
 
 abbrev claims : ℕ → lts.Claims
-claims t = (word-reads.Asked, word-reads.Learnt, record-of-reads.Asked, record-of-reads.Learnt, may-have-z-reads.Asked, may-have-z-reads.Learnt, literal-of-reads.Asked, literal-of-reads.Learnt, leaf-may-match-reads.Asked, leaf-may-match-reads.Learnt, is-pair-reads.Asked, is-pair-reads.Learnt, below t, reads.Post, both-or-either-reads.Asked, both-or-either-reads.Learnt)
+claims t = (word-reads.Asked, word-reads.Learnt, is-leaf-reads.Asked, is-leaf-reads.Learnt, literal-of-reads.Asked, literal-of-reads.Learnt, record-of-reads.Asked, record-of-reads.Learnt, leaf-may-match-reads.Asked, leaf-may-match-reads.Learnt, may-have-z-reads.Asked, may-have-z-reads.Learnt, is-pair-reads.Asked, is-pair-reads.Learnt, below t, reads.Post, both-or-either-reads.Asked, both-or-either-reads.Learnt)
 
 -- what is lent where the node's kind was read, and what a filter answers of it
 abbrev lent : (t : ℕ) → lts.After-word (claims t) (here t) reads.Post → Table
@@ -45,24 +45,23 @@ says t w = let args = w .before .before .before .before .before .before .before 
 
 returns : (t : ℕ) → lts.Need-returns (claims t) (here t) reads.Post
 returns t c =
-    let w = c .before .before .before .before in
+    let w = c .before .before .before .before .before in
     let args = w .before .before .before .before .before .before .before .before .before .args in
-    rw (c .may-have-z .ensures, c .before .before .record-of .ensures) (sym (says-has-z (says t w) (lent t w) (args .node) (w .word .result) _ _ (w .word .ensures) refl refl (c .before .if2 .taken)))
+    rw (c .leaf-may-match .ensures, c .before .record-of .ensures, c .before .before .literal-of .ensures) (sym (says-leaf (says t w) (lent t w) (args .node) (w .word .result) _ _ (w .word .ensures) refl refl (sym (c .before .before .before .before .is-leaf .ensures) ∙ c .before .before .before .if1 .taken)))
 
 returns-2 : (t : ℕ) → lts.Need-returns-2 (claims t) (here t) reads.Post
 returns-2 t c =
     let w = c .before .before .before .before .before in
     let args = w .before .before .before .before .before .before .before .before .before .args in
-    let leaf = leaf-kind (w .word .result) (c .before .before .before .before .if1 .taken) (c .before .before .if2 .left) in
-    rw (c .leaf-may-match .ensures, c .before .literal-of .ensures, c .before .before .before .record-of .ensures) (sym (says-leaf (says t w) (lent t w) (args .node) (w .word .result) _ _ (w .word .ensures) refl refl leaf))
+    rw (c .may-have-z .ensures, c .before .record-of2 .ensures) (sym (says-has-z (says t w) (lent t w) (args .node) (w .word .result) _ _ (w .word .ensures) refl refl (c .before .before .if2 .taken)))
 
 -- a pair that has a child not below it
 broken : (t : ℕ) (c : lts.After-word3 (claims t) (here t) reads.Post)
-    → let w = c .before .before .before .before .before in
+    → let w = c .before .before .before .before .before .before .before in
     let args = w .before .before .before .before .before .before .before .before .before .args in
     areBelow (args .nodes .now) (args .node) ≡ false → says t w (treeAt (lent t w) (args .node)) ≡ true
 broken t c h =
-    let w = c .before .before .before .before .before in
+    let w = c .before .before .before .before .before .before .before in
     let args = w .before .before .before .before .before .before .before .before .before .args in
     says-broken (says t w) (lent t w) (args .node) (w .word .result) (c .before .word2 .result) (c .word3 .result) (w .word .ensures) (c .before .word2 .ensures) (c .word3 .ensures) (sym (c .before .before .before .is-pair .ensures) ∙ c .before .before .if3 .taken) h
 
@@ -79,17 +78,17 @@ returns-4 t c =
 
 may-match-requires : (t : ℕ) → lts.Need-may-match-requires (claims t) (here t) reads.Post
 may-match-requires t c κs =
-    let pre = c .before .before .before .before .before .before .before .before .before .before .before .before .before .before .before .before .pre in
+    let pre = c .before .before .before .before .before .before .before .before .before .before .before .before .before .before .before .before .before .before .pre in
     (subst (λ (n : ℕ). c .before .before .before .word2 .result < n) (pre .0) (c .before .if4 .left), tt)
 
 may-match-requires-2 : (t : ℕ) → lts.Need-may-match-requires-2 (claims t) (here t) reads.Post
 may-match-requires-2 t c κs =
-    let pre = c .before .before .before .before .before .before .before .before .before .before .before .before .before .before .before .before .before .pre in
+    let pre = c .before .before .before .before .before .before .before .before .before .before .before .before .before .before .before .before .before .before .before .pre in
     (subst (λ (n : ℕ). c .before .before .before .word3 .result < n) (pre .0) (c .before .if5 .left), tt)
 
 returns-5 : (t : ℕ) → lts.Need-returns-5 (claims t) (here t) reads.Post
 returns-5 t c =
-    let w = c .before .before .before .before .before .before .before .before .before .before in
+    let w = c .before .before .before .before .before .before .before .before .before .before .before .before in
     let args = w .before .before .before .before .before .before .before .before .before .args in
     let word2 = c .before .before .before .before .before .before .word2 in
     let word3 = c .before .before .before .before .before .word3 in
@@ -97,12 +96,10 @@ returns-5 t c =
 
 returns-6 : (t : ℕ) → lts.Need-returns-6 (claims t) (here t) reads.Post
 returns-6 t c =
-    let w = c .before .before .before in
+    let w = c .before .before .before .before .before in
     let args = w .before .before .before .before .before .before .before .before .before .args in
-    let kind = w .word .result in
-    let above = c .before .before .if1 .left in
-    let other = says-other (says t w) (lent t w) (args .node) kind _ _ (w .word .ensures) refl refl (no-leaf-kind kind above) (sym (c .before .is-pair .ensures) ∙ c .if3 .left) in
-    sym ((rw (ne-eqb kind 2 (λ e. absurd (omega (arith, above)))) at other) ∙ answer-other _ (eqb kind 5))
+    let other = says-other (says t w) (lent t w) (args .node) (w .word .result) _ _ (w .word .ensures) refl refl (sym (c .before .before .before .before .is-leaf .ensures) ∙ c .before .before .before .if1 .left) (sym (c .before .is-pair .ensures) ∙ c .if3 .left) in
+    sym ((rw (ne-eqb (w .word .result) 2 (c .before .before .if2 .left)) at other) ∙ answer-other _ (eqb (w .word .result) 5))
 
 pub +may-match-spec : {M : Type 1} → statement M
-+may-match-spec = close μ (λ t. lts.spec (claims t) (here t) reads.Post (λ c κs. tt) (λ c κs. tt) (λ c κs. tt) (returns t) (λ c κs. tt) (λ c κs. tt) (returns-2 t) (λ c κs. tt) (λ c κs. tt) (λ c κs. tt) (returns-3 t) (returns-4 t) (may-match-requires t) (may-match-requires-2 t) (λ c κs. tt) (returns-5 t) (returns-6 t))
++may-match-spec = close μ (λ t. lts.spec (claims t) (here t) reads.Post (λ c κs. tt) (λ c κs. tt) (λ c κs. tt) (λ c κs. tt) (λ c κs. tt) (returns t) (λ c κs. tt) (λ c κs. tt) (returns-2 t) (λ c κs. tt) (λ c κs. tt) (λ c κs. tt) (returns-3 t) (returns-4 t) (may-match-requires t) (may-match-requires-2 t) (λ c κs. tt) (returns-5 t) (returns-6 t))
