@@ -11,13 +11,29 @@ impl Draws {
         Draws(0)
     }
 
-    /// A double from `lo` up to `hi`.
-    pub fn between(&mut self, lo: f64, hi: f64) -> f64 {
+    fn bits(&mut self) -> u64 {
         self.0 = self.0.wrapping_add(0x9e37_79b9_7f4a_7c15);
         let z = (self.0 ^ (self.0 >> 30)).wrapping_mul(0xbf58_476d_1ce4_e5b9);
         let z = (z ^ (z >> 27)).wrapping_mul(0x94d0_49bb_1331_11eb);
-        let unit = ((z ^ (z >> 31)) >> 11) as f64 / (1u64 << 53) as f64;
+        z ^ (z >> 31)
+    }
+
+    /// A double from `lo` up to `hi`.
+    pub fn between(&mut self, lo: f64, hi: f64) -> f64 {
+        let unit = (self.bits() >> 11) as f64 / (1u64 << 53) as f64;
         lo + unit * (hi - lo)
+    }
+
+    /// Numbers of 32 bits that differ.
+    pub fn different(&mut self, count: usize) -> Vec<u32> {
+        let mut numbers = Vec::new();
+        while numbers.len() < count {
+            let number = self.bits() as u32;
+            if !numbers.contains(&number) {
+                numbers.push(number);
+            }
+        }
+        numbers
     }
 
     /// A box of longitudes, latitudes, depths and degrees. Its x wraps around where it crosses the

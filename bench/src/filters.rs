@@ -1,5 +1,6 @@
 //! Rows of filters: may a file match, and the filter's box.
 
+use crate::by_name::ByName;
 use crate::draws::Draws;
 use crate::layout::{Columns, Ends, Filter};
 use crate::library;
@@ -23,10 +24,11 @@ pub fn rows(bench: &Bench) {
     }
     Query::of(SpatialFilter::HasZ(column(0)), 1, &[0]).time_by_position(bench);
     for query in &small {
-        query.time_by_name(bench);
+        query.time_by_name(bench, query.name("evaluate by name"));
     }
     for columns in [10, 100, 900] {
-        Query::new(4, columns, &[0, columns - 1]).time_by_name(bench);
+        let query = Query::new(4, columns, &[0, columns - 1]);
+        query.time_by_name(bench, query.name("evaluate by name"));
     }
     for query in &small[1..] {
         query.time_filter_bbox(bench);
@@ -36,8 +38,9 @@ pub fn rows(bench: &Bench) {
 /// Files of each answer that a query is asked about.
 const FILES: usize = 10;
 
-/// A filter, on both sides, and files it is asked about: half of them cannot match.
-struct Query {
+/// A filter, on both sides, and files it is asked about: half of them cannot match, where it wants
+/// columns that are there.
+pub struct Query {
     tree: SpatialFilter,
     filter: Filter,
     columns: usize,
@@ -59,9 +62,26 @@ impl Query {
     }
 
     fn of(tree: SpatialFilter, columns: usize, wanted: &[usize]) -> Query {
+        let names: Vec<u32> = (0..columns as u32).collect();
         Query {
             filter: Filter::of(&tree),
-            files: files(&tree, columns, wanted),
+            files: files(&tree, &names, wanted),
+            tree,
+            columns,
+        }
+    }
+
+    /// A query of one leaf, for the name at a place. The last name is that of no column: where it is
+    /// wanted every file may match, and the files are those for the first name.
+    pub fn of_name(names: &[u32], place: usize) -> Query {
+        let columns = names.len() - 1;
+        let at = |place: usize| leaf(0, Column::new(&name(names[place]), place));
+        let (tree, there) = (at(place), place % columns);
+        // All other columns are drawn as one, so that the answers tell whether the right one is found.
+        let other = (there + 1) % columns;
+        Query {
+            filter: Filter::of(&tree),
+            files: files(&at(there), &names[..columns], &[other, there]),
             tree,
             columns,
         }
@@ -74,10 +94,14 @@ impl Query {
         }
     }
 
-    fn row(&self, call: &str) -> Row<'_, File> {
+    fn name(&self, call: &str) -> String {
         let (nodes, columns) = (self.nodes(), count(self.columns, "column"));
+        format!("{call}, {nodes}, {columns}")
+    }
+
+    fn row(&self, name: String) -> Row<'_, File> {
         Row {
-            name: format!("{call}, {nodes}, {columns}"),
+            name,
             inputs: &self.files,
             parts: 1,
         }
@@ -85,24 +109,28 @@ impl Query {
 
     fn time_by_position(&self, bench: &Bench) {
         bench.row(
-            self.row("evaluate by position"),
+            self.row(self.name("evaluate by position")),
             |file| self.tree.evaluate(&file.by_position),
             answer,
             |file| library::evaluate_by_position(&self.filter, &file.records),
         );
     }
 
-    fn time_by_name(&self, bench: &Bench) {
-        bench.row(
-            self.row("evaluate by name"),
+    pub fn time_by_name(&self, bench: &Bench, name: String) {
+        let by = |library: ByName| {
+            move |file: &File| library.evaluate(&self.filter, &file.records, &file.names)
+        };
+        bench.row_beside(
+            self.row(name),
             |file| self.tree.evaluate(&file.by_name),
             answer,
-            |file| library::evaluate_by_name(&self.filter, &file.records, &file.names),
+            by(ByName::linked()),
+            bench.before.map(by),
         );
     }
 
     fn time_filter_bbox(&self, bench: &Bench) {
-        let names: Vec<(String, u32)> = (0..self.columns).map(|k| (name(k), k as u32)).collect();
+        let names: Vec<(String, u32)> = (0..self.columns as u32).map(|k| (name(k), k)).collect();
         bench.row(
             Row {
                 name: format!("filter_bbox, {}", self.nodes()),
@@ -128,12 +156,13 @@ fn count(number: usize, what: &str) -> String {
     format!("{number} {what}{s}")
 }
 
-fn name(column: usize) -> String {
-    format!("c{column}")
+fn name(number: u32) -> String {
+    format!("c{number}")
 }
 
+/// The column at an index, which is its name's number too.
 fn column(index: usize) -> Column {
-    Column::new(&name(index), index)
+    Column::new(&name(index as u32), index)
 }
 
 /// A balanced tree of so many leaves over the wanted columns in turn: every fifth leaf is a Covers,
@@ -172,8 +201,9 @@ fn leaf(k: usize, column: Column) -> SpatialFilter {
 const TYPES: [u32; 2] = [1 << 1, 1 << 9];
 
 /// Draws files until there are enough of both answers, and puts the answers in turns. Only the wanted
-/// columns are drawn, so that rows of different widths ask the same question.
-fn files(tree: &SpatialFilter, columns: usize, wanted: &[usize]) -> Vec<File> {
+/// columns are drawn, so that rows of different widths ask the same question; all others are as the
+/// first of these.
+fn files(tree: &SpatialFilter, names: &[u32], wanted: &[usize]) -> Vec<File> {
     let mut draws = Draws::new();
     let mut types = TYPES.into_iter().cycle();
     let [mut cannot, mut may] = [Vec::new(), Vec::new()];
@@ -182,7 +212,7 @@ fn files(tree: &SpatialFilter, columns: usize, wanted: &[usize]) -> Vec<File> {
         let points = GeoStatistics::unspecified().with_geometry_types(types);
         let record = |_| points.clone().with_bbox(Some(draws.bounding_box()));
         let drawn: Vec<GeoStatistics> = wanted.iter().map(record).collect();
-        let mut records = vec![drawn[0].clone(); columns];
+        let mut records = vec![drawn[0].clone(); names.len()];
         for (column, record) in wanted.iter().zip(drawn) {
             records[*column] = record;
         }
@@ -190,21 +220,19 @@ fn files(tree: &SpatialFilter, columns: usize, wanted: &[usize]) -> Vec<File> {
         let matches = tree.evaluate(&by_position).expect(LENT);
         let list = if matches { &mut may } else { &mut cannot };
         if list.len() < FILES {
-            list.push(file(by_position, &records));
+            list.push(file(by_position, &records, names));
         }
     }
     let pairs = cannot.into_iter().zip(may);
     pairs.flat_map(|(cannot, may)| [cannot, may]).collect()
 }
 
-fn file(by_position: TableGeoStatistics, records: &[GeoStatistics]) -> File {
-    let named = records.iter().enumerate();
+fn file(by_position: TableGeoStatistics, records: &[GeoStatistics], names: &[u32]) -> File {
+    let texts = names.iter().map(|number| name(*number));
     File {
         by_position,
-        by_name: TableGeoStatistics::ByName(
-            named.map(|(k, record)| (name(k), record.clone())).collect(),
-        ),
+        by_name: TableGeoStatistics::ByName(texts.zip(records.iter().cloned()).collect()),
         records: Columns::of(records),
-        names: (0..records.len() as u32).collect(),
+        names: names.to_vec(),
     }
 }

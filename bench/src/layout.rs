@@ -2,6 +2,7 @@
 
 use oracle::bounding_box::BoundingBox;
 use oracle::interval::{Interval, IntervalTrait};
+use oracle::shims::datafusion_physical_expr::expressions::Column;
 use oracle::spatial_filter::SpatialFilter;
 use oracle::statistics::GeoStatistics;
 
@@ -74,7 +75,7 @@ impl Columns {
     }
 }
 
-/// A filter. The number of a column's name is its index.
+/// A filter. The text of a column's name is a letter and the name's number.
 #[derive(Default)]
 pub struct Filter {
     pub nodes: Vec<[u32; 4]>,
@@ -91,9 +92,9 @@ impl Filter {
     /// Adds a tree, its root last, and answers the root's number.
     fn push(&mut self, tree: &SpatialFilter) -> u32 {
         let node = match tree {
-            SpatialFilter::Intersects(column, bbox) => self.leaf(0, column.index(), bbox),
-            SpatialFilter::Covers(column, bbox) => self.leaf(1, column.index(), bbox),
-            SpatialFilter::HasZ(column) => [2, column.index() as u32, column.index() as u32, 0],
+            SpatialFilter::Intersects(column, bbox) => self.leaf(0, column, bbox),
+            SpatialFilter::Covers(column, bbox) => self.leaf(1, column, bbox),
+            SpatialFilter::HasZ(column) => [2, column.index() as u32, number(column), 0],
             SpatialFilter::And(left, right) => [3, self.push(left), self.push(right), 0],
             SpatialFilter::Or(left, right) => [4, self.push(left), self.push(right), 0],
             _ => unreachable!("the trees timed here have no other nodes"),
@@ -102,11 +103,16 @@ impl Filter {
         self.nodes.len() as u32 - 1
     }
 
-    fn leaf(&mut self, kind: u32, column: usize, bbox: &BoundingBox) -> [u32; 4] {
+    fn leaf(&mut self, kind: u32, column: &Column, bbox: &BoundingBox) -> [u32; 4] {
         self.literals.push(Ends::of(bbox));
         let literal = self.literals.flags.len() as u32 - 1;
-        [kind, column as u32, column as u32, literal]
+        [kind, column.index() as u32, number(column), literal]
     }
+}
+
+/// The number of a column's name.
+fn number(column: &Column) -> u32 {
+    column.name()[1..].parse().expect("a letter and a number")
 }
 
 /// A record of which every part is known.

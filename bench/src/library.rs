@@ -1,5 +1,5 @@
 //! Calls of the library over tables made beforehand. The crate of bindings/rust makes its tables at
-//! each call; here the library alone is timed.
+//! each call; here the library alone is timed. Evaluation by name has a file of its own.
 
 use crate::layout::{Columns, Ends, Filter, Record, Records};
 use johikape::raw;
@@ -31,17 +31,11 @@ pub fn evaluate_by_position(filter: &Filter, columns: &Columns) -> u32 {
     )
 }
 
-pub fn evaluate_by_name(filter: &Filter, columns: &Columns, names: &[u32]) -> u32 {
-    raw::evaluate_by_name(
-        filter.nodes.as_flattened(),
-        filter.literals.doubles.as_flattened(),
-        &filter.literals.flags,
-        columns.boxes.doubles.as_flattened(),
-        &columns.boxes.flags,
-        &columns.types,
-        &columns.types_known,
-        names,
-    )
+/// Whether there is a hit, its place, and how many names were compared.
+pub fn find_name(names: &[u32], name: u32) -> (bool, usize, usize) {
+    let (mut place, mut compared) = (0, 0);
+    let hit = raw::find_name(names, name, &mut place, &mut compared);
+    (hit, place, compared)
 }
 
 pub fn filter_bbox(filter: &Filter, name: u32) -> (u32, Ends) {

@@ -2,20 +2,23 @@
 //! the same inputs in one process, and prints a table in Markdown.
 //!
 //! `bench [WORD]..`: only rows whose name has one of the words. BENCH_MS: milliseconds a row.
+//! BENCH_BEFORE: the shared library of an earlier version, timed too in the rows of evaluate by name.
 
 mod boxes;
+mod by_name;
 mod draws;
 mod filters;
 mod layout;
 mod library;
+mod names;
 mod records;
 mod timing;
 
 fn main() {
     let bench = timing::Bench::from_environment();
-    println!("| call | Rust ns | proved ns | ratio |");
-    println!("|---|---:|---:|---:|");
+    bench.head();
     filters::rows(&bench);
+    names::rows(&bench);
     records::rows(&bench);
     boxes::rows(&bench);
 }

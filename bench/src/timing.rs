@@ -1,5 +1,6 @@
-//! Two calls timed in turns.
+//! Calls timed in turns.
 
+use crate::by_name::ByName;
 use std::fmt::Debug;
 use std::hint::black_box;
 use std::time::{Duration, Instant};
@@ -10,10 +11,11 @@ use std::{array, env};
 const BATCH: Duration = Duration::from_micros(50);
 const FEWEST_ROUNDS: usize = 15;
 
-/// Which rows are timed, and for how long.
+/// Which rows are timed, for how long, and the earlier library that is timed beside.
 pub struct Bench {
     words: Vec<String>,
     budget: Duration,
+    pub before: Option<ByName>,
 }
 
 pub struct Row<'a, I> {
@@ -28,9 +30,32 @@ impl Bench {
         let milliseconds = env::var("BENCH_MS").map_or(300, |text| {
             text.parse().expect("BENCH_MS is a whole number")
         });
+        let before = env::var("BENCH_BEFORE").ok();
         Bench {
             words: env::args().skip(1).collect(),
             budget: Duration::from_millis(milliseconds),
+            before: before
+                .filter(|path| !path.is_empty())
+                .map(|path| ByName::loaded(&path)),
+        }
+    }
+
+    /// Prints the head of the table.
+    pub fn head(&self) {
+        let [names, lines] = match self.before {
+            Some(_) => [" before ns | before/now |", "---:|---:|"],
+            None => ["", ""],
+        };
+        println!("| call | Rust ns | proved ns | ratio |{names}");
+        println!("|---|---:|---:|---:|{lines}");
+    }
+
+    /// Whether a row is timed: with words where its name has one of them, else where it is usual.
+    pub fn takes(&self, name: &str, is_usual: bool) -> bool {
+        if self.words.is_empty() {
+            is_usual
+        } else {
+            self.words.iter().any(|word| name.contains(word))
         }
     }
 
@@ -43,37 +68,69 @@ impl Bench {
         laid: impl Fn(&R) -> P,
         proved: impl Fn(&I) -> P,
     ) {
+        self.row_beside(row, rust, laid, proved, None::<fn(&I) -> P>);
+    }
+
+    /// The same, beside an earlier library where there is one.
+    pub fn row_beside<I, R, P: PartialEq + Debug>(
+        &self,
+        row: Row<I>,
+        rust: impl Fn(&I) -> R,
+        laid: impl Fn(&R) -> P,
+        proved: impl Fn(&I) -> P,
+        before: Option<impl Fn(&I) -> P>,
+    ) {
         let Row {
             name,
             inputs,
             parts,
         } = row;
-        if !self.words.is_empty() && !self.words.iter().any(|word| name.contains(word)) {
+        if !self.takes(&name, true) {
             return;
         }
         for input in inputs {
-            assert_eq!(laid(&rust(input)), proved(input), "{name}");
+            let answer = laid(&rust(input));
+            assert_eq!(answer, proved(input), "{name}");
+            if let Some(before) = &before {
+                assert_eq!(answer, before(input), "{name}, before");
+            }
         }
+        let rust = || all(inputs, &rust);
+        let proved = || all(inputs, &proved);
         let done = (inputs.len() * parts) as f64;
-        let [rust, proved] = self
-            .in_turns([&|| all(inputs, &rust), &|| all(inputs, &proved)])
-            .map(|seconds| seconds * 1e9 / done);
+        let each = |seconds: f64| seconds * 1e9 / done;
+        match before {
+            None => {
+                let [rust, proved] = self.in_turns([&rust, &proved]).map(each);
+                self.print(&name, rust, proved, None);
+            }
+            Some(before) => {
+                let before = || all(inputs, &before);
+                let [rust, before, proved] = self.in_turns([&rust, &before, &proved]).map(each);
+                self.print(&name, rust, proved, Some(before));
+            }
+        }
+    }
+
+    fn print(&self, name: &str, rust: f64, proved: f64, before: Option<f64>) {
         let ratio = proved / rust;
-        println!(
-            "| {name} | {} | {} | {ratio:.2} |",
-            shown(rust),
-            shown(proved)
-        );
+        let more = match (self.before, before) {
+            (None, _) => String::new(),
+            (_, None) => " - | - |".to_string(),
+            (_, Some(before)) => format!(" {} | {:.2} |", shown(before), before / proved),
+        };
+        let [rust, proved] = [rust, proved].map(shown);
+        println!("| {name} | {rust} | {proved} | {ratio:.2} |{more}");
     }
 
     /// The least seconds that one run of each side takes.
-    fn in_turns(&self, sides: [&dyn Fn(); 2]) -> [f64; 2] {
+    fn in_turns<const SIDES: usize>(&self, sides: [&dyn Fn(); SIDES]) -> [f64; SIDES] {
         let runs = sides.map(runs_in_a_batch);
-        let mut least = [f64::INFINITY; 2];
+        let mut least = [f64::INFINITY; SIDES];
         let start = Instant::now();
         let mut rounds = 0;
         while rounds < FEWEST_ROUNDS || start.elapsed() < self.budget {
-            let now: [f64; 2] = array::from_fn(|side| {
+            let now: [f64; SIDES] = array::from_fn(|side| {
                 batch(sides[side], runs[side]).as_secs_f64() / runs[side] as f64
             });
             least = array::from_fn(|side| least[side].min(now[side]));

@@ -85,11 +85,11 @@ static uint32_t *words(size_t count, size_t bound) {
     return list;
 }
 
-/* Flags of boxes, now and then of any bits. */
+/* Flags of boxes, now and then of any bits; a long list has hardly more of these than a short one. */
 static uint8_t *flags(size_t count) {
     uint8_t *list = room(count);
     for (size_t i = 0; i < count; i++)
-        list[i] = (uint8_t)(below(50) ? 2 * below(4) + 1 : bits());
+        list[i] = (uint8_t)(below(50 + 4 * count) ? 2 * below(4) + 1 : bits());
     return list;
 }
 
@@ -97,8 +97,26 @@ static uint8_t *flags(size_t count) {
 static uint8_t *known(size_t count) {
     uint8_t *list = room(count);
     for (size_t i = 0; i < count; i++)
-        list[i] = (uint8_t)(below(50) ? below(2) : bits());
+        list[i] = (uint8_t)(below(50 + 4 * count) ? below(2) : bits());
     return list;
+}
+
+/* Names that differ, either dense or alike in their low bits; now and then the last ones do not. */
+static uint32_t *different_names(size_t count) {
+    uint32_t *list = words(count, 8);
+    const size_t different = below(4) ? count : below(count + 1);
+    const unsigned shift = below(2) ? 16 : 0;
+    for (size_t i = 0; i < different; i++)
+        list[i] = (uint32_t)i << shift;
+    return list;
+}
+
+static bool has_twice(const uint32_t *names, size_t count) {
+    for (size_t i = 0; i < count; i++)
+        for (size_t j = 0; j < i; j++)
+            if (names[i] == names[j])
+                return true;
+    return false;
 }
 
 /* A chain of leaves with a word or two of garbage, and cut anywhere. */
@@ -241,7 +259,7 @@ static void records(void) {
 
 static void filters(void) {
     const size_t most = below(100) ? 12 : MOST_NODES;
-    const size_t columns = 4 + below(4), literals = 4 + below(4);
+    const size_t columns = below(50) ? 4 + below(4) : below(1000), literals = 4 + below(4);
     const size_t n = length(4 * (2 * below(most / 2) + 1)), l = length(8 * literals), lf = length(literals);
     const size_t r = length(8 * columns), rf = length(columns), rt = length(columns);
     const size_t tk = length(columns), names_count = length(columns);
@@ -250,9 +268,7 @@ static void filters(void) {
     const uint8_t *literal_flags = flags(lf), *record_flags = flags(rf), *types_known = known(tk);
     /* Half of the lists have hardly a type with z. */
     const uint32_t *record_types = words(rt, below(2) ? 256 : UINT32_MAX);
-    uint32_t *names = words(names_count, 8);
-    for (size_t i = 0; i < names_count && below(4); i++)
-        names[i] = (uint32_t)i;
+    const uint32_t *names = different_names(names_count);
     double *ends = doubles(8);
     uint8_t *out_flags = flags(1);
     const void *before = copy(ends, 8 * sizeof *ends), *before_flags = copy(out_flags, 1);
@@ -260,16 +276,32 @@ static void filters(void) {
           johikape_evaluate_by_position(nodes, n, literal_ends, l, literal_flags, lf, record_ends, r,
                                         record_flags, rf, record_types, rt, types_known, tk),
           JOHIKAPE_NO_COLUMN);
-    gives("evaluate_by_name",
-          johikape_evaluate_by_name(nodes, n, literal_ends, l, literal_flags, lf, record_ends, r,
-                                    record_flags, rf, record_types, rt, types_known, tk, names,
-                                    names_count),
-          JOHIKAPE_NAME_TWICE);
-    const uint32_t given = johikape_filter_bbox(nodes, n, literal_ends, l, literal_flags, lf,
-                                                (uint32_t)below(8), ends, out_flags);
+    uint32_t given = johikape_evaluate_by_name(nodes, n, literal_ends, l, literal_flags, lf, record_ends, r,
+                                               record_flags, rf, record_types, rt, types_known, tk, names,
+                                               names_count);
+    gives("evaluate_by_name", given, JOHIKAPE_NAME_TWICE);
+    if (has_twice(names, names_count) ? given <= JOHIKAPE_MAY_MATCH : given == JOHIKAPE_NAME_TWICE)
+        fail("evaluate_by_name", "wrong about a name twice");
+    given = johikape_filter_bbox(nodes, n, literal_ends, l, literal_flags, lf, (uint32_t)below(8), ends,
+                                 out_flags);
     gives("filter_bbox", given, JOHIKAPE_NO_LITERAL);
     leaves("filter_bbox", given, before, ends, 8 * sizeof *ends);
     leaves("filter_bbox", given, before_flags, out_flags, 1);
+}
+
+/* A name that is among names or not. */
+static void searches(void) {
+    const size_t count = below(50) ? below(12) : below(1000);
+    const uint32_t *names = below(2) ? different_names(count) : words(count, below(2) ? 8 : UINT32_MAX);
+    const uint32_t name = count > 0 && below(2) ? names[below(count)] : *words(1, 8);
+    size_t *place = room(sizeof *place), *compared = room(sizeof *compared), first = 0;
+    *place = *compared = (size_t)bits();
+    while (first < count && names[first] != name)
+        first++;
+    const bool hit = first < count, given = johikape_find_name(names, count, name, place, compared);
+    tests("find_name", given);
+    if (given != hit || *place != first || *compared != first + hit)
+        fail("find_name", "another answer than a plain loop's");
 }
 
 int main(int count, char **arguments) {
@@ -280,10 +312,11 @@ int main(int count, char **arguments) {
         layouts();
         records();
         filters();
+        searches();
         while (rooms_count > 0)
             free(rooms[--rooms_count]);
     }
-    printf("%lu rounds of garbage to 33 functions; answers and numbers:", rounds);
+    printf("%lu rounds of garbage to 34 functions; answers and numbers:", rounds);
     for (int i = 0; i < NUMBERS; i++)
         if (counts[i] > 0)
             printf(" %d: %lu", i, counts[i]);

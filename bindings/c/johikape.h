@@ -121,6 +121,13 @@ uint32_t johikape_evaluate_by_name(const uint32_t *nodes, size_t nodes_count,
                                    const uint8_t *types_known, size_t types_known_count,
                                    const uint32_t *names, size_t names_count);
 
+/* Whether a name number is among the names: the search by name that johikape_evaluate_by_name makes
+ * at each leaf. It compares from the first name on and ends at the first hit. The hit's place counted
+ * from 0 goes into place, names_count where there is none; how many names were compared into
+ * compared: the hit's place counted from 1, or all of them. Nothing is refused, not even a name twice. */
+bool johikape_find_name(const uint32_t *names, size_t names_count, uint32_t name, size_t *place,
+                        size_t *compared);
+
 /* The filter's box for the column of a name number, into ends and flags: what an index scan looks
  * up. 0, or 4, 5 or 7 to 9. */
 uint32_t johikape_filter_bbox(const uint32_t *nodes, size_t nodes_count,

@@ -3,6 +3,7 @@
 use crate::bounding_box::BoundingBox;
 use crate::interval::{Interval, IntervalTrait, WraparoundInterval};
 use crate::layouts::MOST_NUMBERS;
+use crate::names::Search;
 use crate::operands::{Kind, MISSING};
 use crate::records::{EXTENTS, LEAVES_RANGE, TOTALS};
 use crate::statistics::GeoStatistics;
@@ -17,8 +18,10 @@ enum Part {
     Bool(bool),
     /// Whether a filter may match.
     Match(bool),
+    /// Whether a search for a name has a hit.
+    Hit(bool),
     Double(f64),
-    /// A count, a type set by its bits, or the number before a record or a box.
+    /// A count, a place, a type set by its bits, or the number before a record or a box.
     Integer(u64),
     /// A total of a record.
     Total(i64),
@@ -38,6 +41,8 @@ impl Part {
             Part::Bool(value) => Some(value.to_string()),
             Part::Match(true) => Some("may match".to_string()),
             Part::Match(false) => Some("cannot match".to_string()),
+            Part::Hit(true) => Some("hit".to_string()),
+            Part::Hit(false) => Some("none".to_string()),
             Part::Double(value) => Some(text::write(*value)),
             Part::Integer(value) => Some(value.to_string()),
             Part::Total(value) => Some(value.to_string()),
@@ -50,7 +55,7 @@ impl Part {
     /// A word: of a double its bits, where every NaN counts as one and so do the two zeros.
     fn word(&self) -> u64 {
         match self {
-            Part::Bool(value) | Part::Match(value) => u64::from(*value),
+            Part::Bool(value) | Part::Match(value) | Part::Hit(value) => u64::from(*value),
             Part::Double(value) if value.is_nan() => 0x7ff8_0000_0000_0000,
             Part::Double(0.0) => 0,
             Part::Double(value) => value.to_bits(),
@@ -208,6 +213,14 @@ impl From<GeoStatistics> for Answer {
         let extents = EXTENTS.map(|extent| known(extent(&value), 1));
         let parts = [bounds, types].into_iter().chain(totals).chain(extents);
         Answer::joined(parts)
+    }
+}
+
+impl From<Search> for Answer {
+    fn from(value: Search) -> Self {
+        let counts = [value.place.into(), value.compared.into()];
+        let is_hit = Answer(vec![Part::Hit(value.is_hit)]);
+        Answer::joined([is_hit].into_iter().chain(counts))
     }
 }
 

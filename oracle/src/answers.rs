@@ -1,12 +1,13 @@
 //! Answers a case file line by line. `CALL V V ..` is one case, and `sweep CALL` makes the call with
 //! every tuple of operands from the last lines `values V V ..`, `intervals LO HI ..` and
-//! `sets S S ..`. A filter call is over the tables of the last lines `nodes W W ..` and so on.
-//! Comments and empty lines are copied.
+//! `sets S S ..`. A filter call is over the tables of the last lines `nodes W W ..` and so on, as is a
+//! search for a name. Comments and empty lines are copied.
 
 use crate::answer::Answer;
 use crate::calls::Call;
 use crate::filters::{Lookup, Tables, bounds, read_flag, read_list};
 use crate::layouts::{from_geoparquet, to_geoparquet};
+use crate::names::{Many, find_name};
 use crate::operands::Lists;
 use crate::text::{read, read_set};
 
@@ -57,6 +58,7 @@ impl Reader<'_> {
             }
             [name, ref operands @ ..] => self
                 .filter(name, operands)
+                .or_else(|| self.search(name, operands))
                 .or_else(|| layout(name, operands))
                 .or_else(|| self.single(name, operands)),
             [] => None,
@@ -68,15 +70,31 @@ impl Reader<'_> {
         self.tables.set_chain(read_set(words)? as usize)
     }
 
-    /// A call over the tables.
+    /// A filter call over the tables, or over many columns.
     fn filter(&self, name: &str, operands: &[&str]) -> Option<String> {
         let answer = match (name.strip_prefix("SpatialFilter::")?, operands) {
             ("evaluate_by_position", []) => self.tables.evaluate(Lookup::ByPosition),
             ("evaluate_by_name", []) => self.tables.evaluate(Lookup::ByName),
+            ("evaluate_by_name_of_many", many) => {
+                let tables = self.tables.over(Many::read(many)?.names());
+                tables.evaluate(Lookup::ByName)
+            }
             ("filter_bbox", [name]) => self.tables.filter_bbox(read_set(name)?),
             _ => return None,
         };
         Some(answer.text())
+    }
+
+    /// A search for a name, among those of the tables or those of many columns.
+    fn search(&self, name: &str, operands: &[&str]) -> Option<String> {
+        let search = match (name.strip_prefix("sedona_expr::")?, operands) {
+            ("find_name", [name]) => find_name(&self.tables.names, read_set(name)?),
+            ("find_name_of_many", [name, many @ ..]) => {
+                find_name(&Many::read(many)?.names(), read_set(name)?)
+            }
+            _ => return None,
+        };
+        Some(Answer::from(search).text())
     }
 
     fn sweep(&self, name: &str) -> Option<String> {

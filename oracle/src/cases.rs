@@ -49,7 +49,7 @@ const HEADER: &str = "\
 ";
 
 /// The case file: a sweep of every call whose operands are listed, and the cases of singles.txt,
-/// filters.txt, layouts.txt and has_z.txt.
+/// filters.txt, layouts.txt, has_z.txt and names.txt.
 pub fn cases(calls: &[Call]) -> String {
     let sweeps: String = calls
         .iter()
@@ -75,6 +75,7 @@ fn singles() -> String {
         include_str!("filters.txt"),
         include_str!("layouts.txt"),
         include_str!("has_z.txt"),
+        include_str!("names.txt"),
     ];
     let lines = files.into_iter().flat_map(str::lines);
     lines.map(|line| spelled(line) + "\n").collect()

@@ -31,7 +31,7 @@ pub const NAMES: u32 = 6;
 
 /// Intersects, Covers, HasZ, LiteralFalse, Unknown.
 const LEAVES: [u32; 16] = [0, 0, 0, 0, 0, 0, 1, 1, 1, 1, 2, 2, 2, 5, 6, 6];
-const HAS_Z: u32 = 2;
+pub const HAS_Z: u32 = 2;
 
 /// The types without z, and the bits at the edges of the four bytes of a type set.
 const FLAT: u32 = 0x00ff_00ff;

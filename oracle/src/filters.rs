@@ -27,7 +27,7 @@ pub struct Tables {
 }
 
 /// Eight doubles a box, the ends of x, y, z and m, and a flag.
-#[derive(Default)]
+#[derive(Clone, Default)]
 pub struct Boxes {
     pub ends: Vec<f64>,
     pub flags: Vec<u8>,
@@ -98,6 +98,25 @@ impl Tables {
         });
         self.nodes = nodes.take(words).collect();
         Some(())
+    }
+
+    /// These nodes and literals, over a column for each name. The x of its box is its place, and all
+    /// else 0; no types are known.
+    pub fn over(&self, names: Vec<u32>) -> Tables {
+        let count = names.len();
+        let places = (0..count).map(|place| place as f64);
+        let ends = places.flat_map(|x| [x, x, 0.0, 0.0, 0.0, 0.0, 0.0, 0.0]);
+        Tables {
+            nodes: self.nodes.clone(),
+            literals: self.literals.clone(),
+            records: Boxes {
+                ends: ends.collect(),
+                flags: vec![1; count],
+            },
+            record_types: vec![0; count],
+            types_known: vec![0; count],
+            names,
+        }
     }
 
     /// The four words of a node.

@@ -8,6 +8,8 @@ pub mod cases;
 pub mod filter_draws;
 pub mod filters;
 pub mod layouts;
+pub mod name_draws;
+pub mod names;
 pub mod operands;
 pub mod random;
 pub mod records;

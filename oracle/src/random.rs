@@ -1,14 +1,16 @@
 //! Random cases over all calls.
 
 use crate::calls::Call;
-use crate::filters::MOST_WORDS;
+use crate::filters::{MOST_WORDS, Tables};
 use crate::operands::{Kind, MISSING};
 use crate::records::TOTALS;
 use crate::text::{write_line, write_operands};
 
-/// Filter calls and those of the two layouts, which are not in the table of calls.
+/// Filter calls, those of the two layouts and those over many columns, which are not in the table of
+/// calls.
 const FILTER_CALLS: usize = 3;
 const LAYOUT_CALLS: usize = 2;
+const MANY_CALLS: usize = 2;
 
 /// What a box may know besides x and y, as flags: nothing, z, m, or both.
 const FLAGS: [u8; 4] = [1, 3, 5, 7];
@@ -19,13 +21,15 @@ const EMPTY: [[f64; 2]; 2] = [[f64::INFINITY, f64::NEG_INFINITY], [f64::MAX, f64
 /// `count` cases, the same ones for the same seed. Doubles of note are drawn from `values`.
 pub fn cases(calls: &[Call], values: &[f64], seed: u64, count: usize) -> String {
     let mut random = Random::new(seed, values);
-    let others = FILTER_CALLS + LAYOUT_CALLS;
+    let layouts = calls.len() + FILTER_CALLS;
+    let many = layouts + LAYOUT_CALLS;
     let cases = (0..count).map(|_| {
-        let place = random.below(calls.len() + others);
+        let place = random.below(many + MANY_CALLS);
         match calls.get(place) {
             Some(call) => write_line(&call.name, &random.words(&call.operands)),
-            None if place < calls.len() + FILTER_CALLS => random.filter_case(),
-            None => random.layout_case(),
+            None if place < layouts => random.filter_case(),
+            None if place < many => random.layout_case(),
+            None => random.many_case(),
         }
     });
     cases.collect()
@@ -79,19 +83,41 @@ impl Random<'_> {
         words
     }
 
-    /// The filter calls over drawn tables whose nodes fit into a line, half of the time with doubles
-    /// of every kind.
+    /// The filter calls and the search for a name over drawn tables, half of the time with doubles of
+    /// every kind.
     fn filter_case(&mut self) -> String {
-        let mut tables = self.tables();
-        while tables.nodes.len() > MOST_WORDS {
-            tables = self.tables();
-        }
+        let mut tables = self.tables_of_lines();
         if self.below(2) == 0 {
             self.redraw(&mut tables);
         }
         let calls = "SpatialFilter::evaluate_by_position\nSpatialFilter::evaluate_by_name\n";
-        let name = self.name().to_string();
-        tables.lines() + calls + &write_line("SpatialFilter::filter_bbox", &[name])
+        let name = [self.name().to_string()];
+        tables.lines()
+            + calls
+            + &write_line("SpatialFilter::filter_bbox", &name)
+            + &write_line("sedona_expr::find_name", &name)
+    }
+
+    /// Tables whose nodes fit into a line.
+    fn tables_of_lines(&mut self) -> Tables {
+        let mut tables = self.tables();
+        while tables.nodes.len() > MOST_WORDS {
+            tables = self.tables();
+        }
+        tables
+    }
+
+    /// The calls over many columns.
+    fn many_case(&mut self) -> String {
+        let many = self.many();
+        let names = many.names();
+        let mut tables = self.tables_of_lines();
+        self.ask(&mut tables, &names);
+        let mut words = vec![self.one_of(&names).to_string()];
+        words.extend(many.words());
+        tables.lines()
+            + &write_line("sedona_expr::find_name_of_many", &words)
+            + &write_line("SpatialFilter::evaluate_by_name_of_many", &words[1..])
     }
 
     /// The calls of the two layouts, each of its own.

@@ -16,6 +16,7 @@ Here a file of readings on a compost site has two parts, with degrees as m; want
 
 `evaluate_by_position`, `evaluate_by_name`, `filter_bbox` and `merge` are methods, and functions of
 the same names here. `Records` and `evaluate` read whole tables in buffers, without copying.
+`find_name` is the search that each leaf makes by name.
 
 The work is done by a library in which each function is proved to give what its definition says.
 What it refuses is raised as `Refusal`, with a number. No call keeps anything, and other threads run
@@ -24,6 +25,7 @@ meanwhile. `python3 -m johikape demo` shows pile six.
 
 from .bounding_box import BoundingBox
 from .interval import Interval, WraparoundInterval
+from .name_search import NameSearch, find_name
 from .records import Records, fold
 from .refusal import Refusal
 from .spatial_filter import Column, Evaluation, Filter, Tables, evaluate
@@ -41,6 +43,7 @@ __all__ = [
     "Filter",
     "GeoStatistics",
     "Interval",
+    "NameSearch",
     "Records",
     "Refusal",
     "Tables",
@@ -49,6 +52,7 @@ __all__ = [
     "evaluate_by_name",
     "evaluate_by_position",
     "filter_bbox",
+    "find_name",
     "fold",
     "merge",
 ]

@@ -24,6 +24,7 @@ _BOX = [c_void_p, c_uint8]
 _SIGNATURES = {
     "evaluate_by_position": (c_uint32, _LIST * 7),
     "evaluate_by_name": (c_uint32, _LIST * 8),
+    "find_name": (c_bool, _LIST + [c_uint32, c_void_p, c_void_p]),
     "filter_bbox": (c_uint32, _LIST * 3 + [c_uint32, c_void_p, c_void_p]),
     "merge": (c_uint32, [c_void_p] * 6 + [c_uint32, c_uint32]),
     "fold": (c_uint32, _LIST * 4 + [c_void_p] * 4),

@@ -15,7 +15,16 @@ from dataclasses import replace
 from pathlib import Path
 
 import johikape
-from johikape import BoundingBox, Column, Filter, GeoStatistics, Interval, Refusal, fold
+from johikape import (
+    BoundingBox,
+    Column,
+    Filter,
+    GeoStatistics,
+    Interval,
+    NameSearch,
+    Refusal,
+    fold,
+)
 
 FOLDER = Path(__file__).resolve().parents[1]
 
@@ -104,6 +113,8 @@ class Values(unittest.TestCase):
         GeoStatistics(bbox=box, total_points=240),
         Filter.intersects(Column(0, 6), box) & (Filter.unknown() | Filter.literal_false()),
         Filter.has_z(Column(0, 6)),
+        NameSearch(1, 2),
+        NameSearch(None, 3),
     ]
 
     def test_shown_as_written(self):

@@ -2,6 +2,7 @@
 
 use crate::filter::Evaluation;
 use crate::layout::{Boxes, Columns, Ends, Record, Records};
+use crate::name_search::NameSearch;
 use crate::raw;
 use crate::refusal::Refusal;
 
@@ -130,6 +131,15 @@ pub(crate) fn evaluate_by_name(
         &columns.types_known,
         names,
     ))
+}
+
+pub(crate) fn find_name(names: &[u32], name: u32) -> NameSearch {
+    let (mut place, mut compared) = (0, 0);
+    let hit = raw::find_name(names, name, &mut place, &mut compared);
+    NameSearch {
+        place: hit.then_some(place),
+        compared,
+    }
 }
 
 pub(crate) fn filter_bbox(

@@ -299,7 +299,10 @@ impl CompiledFilter {
     /// Whether a file may have a row that is wanted. Each leaf looks at the record beside its name
     /// number; a number that is not there counts as a record without a box and without types.
     ///
-    /// Each name is compared with all others, so the time grows with the square of the columns.
+    /// A leaf's number is sought from the first record on, as [`find_name`](crate::find_name) does.
+    /// Whether a number comes twice is found in time that grows with the number of records where
+    /// the low bits of their numbers are spread or dense, and with its square only where many
+    /// numbers have the same low bits.
     ///
     /// # Errors
     ///

@@ -52,6 +52,7 @@ mod calls;
 mod filter;
 mod interval;
 mod layout;
+mod name_search;
 #[allow(unsafe_code)]
 pub mod raw;
 mod refusal;
@@ -60,5 +61,6 @@ mod statistics;
 pub use bounding_box::BoundingBox;
 pub use filter::{Column, CompiledFilter, Evaluation, Filter};
 pub use interval::{Interval, WraparoundInterval};
+pub use name_search::{NameSearch, find_name};
 pub use refusal::Refusal;
 pub use statistics::{GeoStatistics, fold};

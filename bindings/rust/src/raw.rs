@@ -5,7 +5,7 @@
 //! pointer, writes only through what is `&mut` below, and gives a bad value a number. So a call is
 //! sound where each pointer is good for what its type and count say, and where what is written
 //! overlaps no other argument. Arguments that are references are both by their type, and the
-//! functions that take nothing else are declared `safe`. The five that take lists as pointers and
+//! functions that take nothing else are declared `safe`. The six that take lists as pointers and
 //! counts are called here alone, over slices.
 
 #![allow(missing_docs)]
@@ -140,6 +140,14 @@ unsafe extern "C" {
         names_count: usize,
     ) -> u32;
 
+    fn johikape_find_name(
+        names: *const u32,
+        names_count: usize,
+        name: u32,
+        place: &mut usize,
+        compared: &mut usize,
+    ) -> bool;
+
     fn johikape_filter_bbox(
         nodes: *const u32,
         nodes_count: usize,
@@ -153,7 +161,7 @@ unsafe extern "C" {
     ) -> u32;
 }
 
-// SAFETY, of the five below: each pointer and count are those of one slice, which is lent for the
+// SAFETY, of the six below: each pointer and count are those of one slice, which is lent for the
 // whole call and only read. What is written is borrowed by the call alone.
 
 /// `johikape_box_from_geoparquet`.
@@ -257,6 +265,12 @@ pub fn evaluate_by_name(
             names.len(),
         )
     }
+}
+
+/// `johikape_find_name`.
+#[inline]
+pub fn find_name(names: &[u32], name: u32, place: &mut usize, compared: &mut usize) -> bool {
+    unsafe { johikape_find_name(names.as_ptr(), names.len(), name, place, compared) }
 }
 
 /// `johikape_filter_bbox`.

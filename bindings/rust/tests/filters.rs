@@ -344,6 +344,37 @@ fn a_name_is_found_among_1_000() {
 }
 
 #[test]
+fn names_with_the_same_low_bits_are_not_the_same() {
+    let named = |k, x| Filter::intersects(Column::named(0, k * 65_536), strip(x, x));
+    for count in [32, 33, 900] {
+        let columns: Vec<(u32, GeoStatistics)> = (0..count)
+            .map(|k| (k * 65_536, record(f64::from(k), f64::from(k))))
+            .collect();
+        let last = count - 1;
+        let there = named(last, f64::from(last));
+        assert_eq!(ask_by_name(&there, &columns), Ok(MayMatch));
+        assert_eq!(ask_by_name(&named(last, 0.0), &columns), Ok(CannotMatch));
+        assert_eq!(ask_by_name(&named(count, 0.0), &columns), Ok(MayMatch));
+    }
+}
+
+#[test]
+fn a_name_at_both_ends_is_refused() {
+    let kinds: [fn(u32) -> u32; 3] = [|k| k, |k| k * 65_536, |k| k.wrapping_mul(0x9e37_79b9)];
+    for kind in kinds {
+        for count in [32, 33, 900] {
+            let mut columns: Vec<(u32, GeoStatistics)> =
+                (0..count).map(|k| (kind(k), record(0.0, 1.0))).collect();
+            assert_eq!(ask_by_name(&near(), &columns), Ok(MayMatch));
+            columns[count as usize - 1].0 = columns[0].0;
+            assert_eq!(ask_by_name(&near(), &columns), Err(Refusal::NameTwice));
+            assert_eq!(ask_by_name(&near(), &columns[1..]), Ok(MayMatch));
+        }
+    }
+    assert_eq!(Refusal::NameTwice.number(), 11);
+}
+
+#[test]
 fn a_filter_may_match_and_have_an_empty_box() {
     let at = |lo, hi| Filter::intersects(Column::named(0, 4), strip(lo, hi));
     let filter = at(1.0, 2.0).and(at(5.0, 6.0));

@@ -1,11 +1,13 @@
-// The three filter calls.
+// The three filter calls, and the search for a name.
 ghost use mathlib.Core.Path.{_≡_};
 ghost use Rattle.sedona_expr.specs.Tables as tables;
 ghost use Rattle.sedona_expr.specs.Calls as calls;
+ghost use Rattle.sedona_expr.specs.Names.{findName};
 ghost use Rattle.johikape.specs.Boxes as boxes;
 ghost use Rattle.johikape.specs.Filters as filters;
 use crate::boxes::Ends;
 use crate::boxes::put_box;
+use sedona_expr::names::find_name;
 use sedona_expr::spatial_filter::Evaluation;
 use sedona_expr::spatial_filter::evaluate_by_name;
 use sedona_expr::spatial_filter::evaluate_by_position;
@@ -89,4 +91,20 @@ pub extern "C" fn johikape_filter_bbox(
         flag,
         filter_bbox(nodes, literals, literal_flags, name),
     )
+}
+
+// Whether a name is among names; its place, and how many names were compared.
+#[no_mangle]
+pub extern "C" fn johikape_find_name(
+    names: &[u32],
+    name: u32,
+    place: &mut usize,
+    compared: &mut usize,
+) -> bool
+    ensures { λ r. ⌜ filters.found r (now (place .exit)) (now (compared .exit)) ≡ findName (now (names .entry)) name ⌝ }
+{
+    let found = find_name(names, name);
+    *place = found.place;
+    *compared = found.compared;
+    found.hit
 }

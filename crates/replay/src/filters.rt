@@ -1,6 +1,7 @@
 // The calls of filters, over the tables that are lent to them.
 use crate::names::EVALUATE_BY_NAME;
 use crate::names::FILTER_BBOX;
+use crate::names::FIND_NAME;
 use crate::tables::Nodes;
 use crate::tables::Tables;
 use replay_geometry::answer::put_box;
@@ -10,15 +11,16 @@ use replay_text::output::Buffer;
 use replay_text::output::put;
 use replay_text::output::put_all;
 use replay_text::output::put_decimal;
-use replay_text::words::MOST_WORDS;
 use replay_text::words::Words;
+use sedona_expr::names::NameSearch;
+use sedona_expr::names::find_name;
 use sedona_expr::spatial_filter::Evaluation;
 use sedona_expr::spatial_filter::evaluate_by_name;
 use sedona_expr::spatial_filter::evaluate_by_position;
 use sedona_expr::spatial_filter::filter_bbox;
 use sedona_geometry::bounding_box::NumberedBox;
 
-// Puts what a call answers. `filter_bbox` takes a name, the others no word.
+// Puts what a call answers. `filter_bbox` and `find_name` take a name, the others no word.
 pub fn put_call_of_tables(
     out: &mut Buffer,
     filled: usize,
@@ -33,17 +35,37 @@ pub fn put_call_of_tables(
     if call.name == FILTER_BBOX {
         return put_numbered(out, filled, bbox_of(nodes, tables, words.sets[0]));
     }
+    if call.name == FIND_NAME {
+        let names = tables.names;
+        let lent = first_words(names.count, &names.list);
+        return put_search(out, filled, find_name(lent, words.sets[0]));
+    }
     let is_by_name = call.name == EVALUATE_BY_NAME;
     put_evaluation(out, filled, evaluate(nodes, tables, is_by_name))
 }
 
 // Puts whether a filter may match, or the number that refuses it.
-fn put_evaluation(out: &mut Buffer, filled: usize, evaluation: Evaluation) -> usize {
+pub fn put_evaluation(out: &mut Buffer, filled: usize, evaluation: Evaluation) -> usize {
     match evaluation {
         Evaluation::MayMatch => put_all(out, filled, b"may match"),
         Evaluation::CannotMatch => put_all(out, filled, b"cannot match"),
         Evaluation::Refused(number) => put_refused(out, filled, number),
     }
+}
+
+// Puts whether a search hit, the place, and how many names it compared.
+pub fn put_search(out: &mut Buffer, filled: usize, found: NameSearch) -> usize {
+    let at = put_word(out, filled, found.hit);
+    let at = put_decimal(out, at, found.place as u64);
+    let at = put(out, at, b' ');
+    put_decimal(out, at, found.compared as u64)
+}
+
+fn put_word(out: &mut Buffer, filled: usize, is_hit: bool) -> usize {
+    if is_hit {
+        return put_all(out, filled, b"hit ");
+    }
+    put_all(out, filled, b"none ")
 }
 
 // Puts a number and a box.
@@ -70,9 +92,9 @@ fn evaluate(nodes: &Nodes, tables: Tables, is_by_name: bool) -> Evaluation {
             first_flags(literal_flags.count, &literal_flags.list),
             first_doubles(records.count, &records.list),
             first_flags(record_flags.count, &record_flags.list),
-            first_sets(types.count, &types.list),
+            first_words(types.count, &types.list),
             first_flags(known.count, &known.list),
-            first_sets(names.count, &names.list),
+            first_words(names.count, &names.list),
         );
     }
     evaluate_by_position(
@@ -81,7 +103,7 @@ fn evaluate(nodes: &Nodes, tables: Tables, is_by_name: bool) -> Evaluation {
         first_flags(literal_flags.count, &literal_flags.list),
         first_doubles(records.count, &records.list),
         first_flags(record_flags.count, &record_flags.list),
-        first_sets(types.count, &types.list),
+        first_words(types.count, &types.list),
         first_flags(known.count, &known.list),
     )
 }
@@ -98,38 +120,26 @@ fn bbox_of(nodes: &Nodes, tables: Tables, name: u32) -> NumberedBox {
     )
 }
 
-// The first so many words of nodes; all, where there are no more.
-fn first_words<'a>(count: usize, words: &'a Nodes) -> &'a [u32] {
-    let all = &words[..];
-    if count < all.len() {
-        return &all[0..count];
+// The first so many words of nodes, type sets or names; all, where there are no more.
+pub fn first_words<'a>(count: usize, words: &'a [u32]) -> &'a [u32] {
+    if count < words.len() {
+        return &words[0..count];
     }
-    all
+    words
 }
 
 // The same of doubles.
-pub fn first_doubles<'a>(count: usize, list: &'a [f64; MOST_WORDS]) -> &'a [f64] {
-    let all = &list[..];
-    if count < all.len() {
-        return &all[0..count];
+pub fn first_doubles<'a>(count: usize, doubles: &'a [f64]) -> &'a [f64] {
+    if count < doubles.len() {
+        return &doubles[0..count];
     }
-    all
+    doubles
 }
 
 // The same of flags, or of known bytes.
-fn first_flags<'a>(count: usize, list: &'a [u8; MOST_WORDS]) -> &'a [u8] {
-    let all = &list[..];
-    if count < all.len() {
-        return &all[0..count];
+pub fn first_flags<'a>(count: usize, flags: &'a [u8]) -> &'a [u8] {
+    if count < flags.len() {
+        return &flags[0..count];
     }
-    all
-}
-
-// The same of type sets, or of names.
-fn first_sets<'a>(count: usize, list: &'a [u32; MOST_WORDS]) -> &'a [u32] {
-    let all = &list[..];
-    if count < all.len() {
-        return &all[0..count];
-    }
-    all
+    flags
 }

@@ -6,8 +6,10 @@ use crate::kept::Kept;
 use crate::kept::NO_SETTING;
 use crate::kept::setting_named;
 use crate::layouts::put_call_of_layouts;
+use crate::many::put_call_of_many;
 use crate::names::FILTER;
 use crate::names::LAYOUT;
+use crate::names::MANY;
 use crate::names::STATISTICS;
 use crate::names::call_named;
 use crate::names::takes;
@@ -145,6 +147,7 @@ fn put_call(
         STATISTICS => put_call_of_records(out, filled, call, words),
         FILTER => put_call_of_tables(out, filled, call, words, nodes, kept.tables()),
         LAYOUT => put_call_of_layouts(out, filled, call, words),
+        MANY => put_call_of_many(out, filled, call, words, nodes, kept.tables()),
         _ => put_answer(out, filled, answer_to(call, words)),
     }
 }

@@ -5,6 +5,7 @@ mod kept;
 mod layouts;
 mod lent;
 mod line;
+mod many;
 mod names;
 mod record_text;
 mod records;

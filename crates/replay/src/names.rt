@@ -14,6 +14,8 @@ pub const FILTER: u8 = 7;
 
 pub const LAYOUT: u8 = 8;
 
+pub const MANY: u8 = 9;
+
 // The rest of its name, in the same way.
 pub const UNSPECIFIED: u8 = 34;
 
@@ -28,6 +30,8 @@ pub const FILTER_BBOX: u8 = 38;
 pub const TO_GEOPARQUET: u8 = 39;
 
 pub const FROM_GEOPARQUET: u8 = 40;
+
+pub const FIND_NAME: u8 = 41;
 
 // The operands of a call that takes any number of words.
 const ANY: usize = usize::MAX;
@@ -48,6 +52,10 @@ pub fn call_named(word: &[u8]) -> Call {
         return call;
     }
     let call = call_of_layout(word);
+    if call.is_known() {
+        return call;
+    }
+    let call = call_of_many(word);
     if call.is_known() {
         return call;
     }
@@ -82,6 +90,19 @@ fn call_of_filter(word: &[u8]) -> Call {
             0,
         )
         .row(word, b"SpatialFilter::filter_bbox", FILTER_BBOX, 1)
+        .row(word, b"sedona_expr::find_name", FIND_NAME, 1)
+}
+
+// The same over many columns, whose number, step and last name come last.
+fn call_of_many(word: &[u8]) -> Call {
+    Call::unknown(MANY)
+        .row(
+            word,
+            b"SpatialFilter::evaluate_by_name_of_many",
+            EVALUATE_BY_NAME,
+            3,
+        )
+        .row(word, b"sedona_expr::find_name_of_many", FIND_NAME, 4)
 }
 
 // The calls of the two layouts. A box is eight ends and a flag, an array any number of numbers.

@@ -8,6 +8,7 @@ pub mod Marked
 pub mod Marks
 pub mod Masks
 pub mod MayMatch
+pub mod NameSearches
 pub mod Needed
 pub mod Numbers
 pub mod Passing
@@ -17,6 +18,7 @@ pub mod Searches
 pub mod StraightBoxes
 pub mod Theorems
 pub mod Trees
+pub mod Twice
 pub mod WantedRow
 pub mod While
 pub mod Whole

@@ -2,7 +2,7 @@
 use mathlib.Core.Path.{_≡_, refl, sym, subst, ap, _∙_}
 use mathlib.Core.Bool.{Bool, true, false, not, _&&_, _||_}
 use Prim.Native.Nat.{ℕ, zero, suc, _*_, _/_, _%_, _^_, _≤_, _<_, min}
-use native.Mathlib.Nat.{zero-min, min-le-left, min-eq-right, pow-suc, mul-comm, zero-div, div-lt-iff-lt-mul, lt-of-le-of-lt}
+use native.Mathlib.Nat.{zero-min, min-le-left, min-eq-right, pow-suc, mul-comm, zero-div, div-self, div-lt-iff-lt-mul, lt-of-le-of-lt}
 use native.Mathlib.Omega.{arith}
 use lib.Dec.{eqb}
 use lib.Pow.{pow-pos}
@@ -10,7 +10,9 @@ use lib.Bits.{bitAnd, and-step, and-shr, and-comm, and-le-l}
 use borrow.Author.Tests.{eqb-true, eqb-false, eq-eqb, ne-eqb}
 use Rattle.sedona_geometry.specs.Types.{fromBits, has}
 use Rattle.sedona_geometry.specs.declared.types.GeometryTypeAndDimensionsSet.{GeometryTypeAndDimensionsSet}
+use Rattle.sedona_geometry.proofs.Bits.{merge-has}
 use Rattle.sedona_geometry.proofs.Order.{holds, is-true, or-right}
+use Rattle.sedona_expr.specs.Names.{hasBit, withBit}
 use Rattle.sedona_expr.specs.SpatialFilter.{isZ, anyBelow, hasZType}
 
 -- ---- some number below n
@@ -48,6 +50,15 @@ any-bit m (suc w) h = go (has (fromBits m) w) refl (any-bit m w)
         let d : (m / 2 ^ w % 2 ≡ 1 → ⊥) = eqb-false (m / 2 ^ w % 2) 1 e in
         let l : m < 1 * 2 ^ w = div-lt-iff-lt-mul (pow-pos w) .0 (omega (arith, high)) in
         or-false (anyBelow (has (fromBits m)) w) ∙ f (omega arith)
+
+-- ---- a bit that is set
+pub bit-stays : (w b c : ℕ) → hasBit w c ≡ true → hasBit (withBit w b) c ≡ true
+bit-stays w b c h = merge-has (fromBits w) (fromBits (2 ^ b)) c ∙ rw h
+
+pub bit-is-set : (w b : ℕ) → hasBit (withBit w b) b ≡ true
+bit-is-set w b =
+    merge-has (fromBits w) (fromBits (2 ^ b)) b
+    ∙ is-true (hasBit w b || hasBit (2 ^ b) b) (or-right (hasBit w b) (hasBit (2 ^ b) b) (holds (ap (λ (n : ℕ). eqb (n % 2) 1) (div-self (pow-pos b)))))
 
 -- ---- a mask keeps the bits that it has
 both : (x y : ℕ) → x < 2 → y < 2 → eqb (min x y) 1 ≡ (eqb x 1 && eqb y 1)

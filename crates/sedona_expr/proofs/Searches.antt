@@ -6,27 +6,39 @@ use Prim.Native.Nat.{ℕ, zero, suc, _+_, _≤_, _<_}
 use native.Mathlib.Numerals.{add-one}
 use native.Mathlib.Omega.{arith}
 use lib.Dec.{eqb}
-use lib.ListN.{length, getD, drop, drop-of-length-le, length-drop}
+use lib.ListN.{length, getD, drop, drop-of-length-le}
 use lib.Seq.{drop-cons}
-use borrow.Author.Tests.{eq-eqb, ne-eqb, lt-ltb, le-ltb, ltb-false}
+use borrow.Author.Tests.{eqb-true, eqb-false, eq-eqb, ne-eqb, ltb-false}
 use Rattle.sedona_geometry.proofs.Order.{fails}
+use Rattle.sedona_expr.specs.Names.{findName}
 use Rattle.sedona_expr.specs.Tables.{placeOf}
 use Rattle.sedona_expr.specs.Refusals.{all, isAmong, hasTwice}
+use Rattle.sedona_expr.specs.declared.names.NameSearch.{NameSearch}
 
 rest : {A : Type 0} (xs : List A) (i : ℕ) (d : A) → i < length xs → drop i xs ≡ getD xs i d ∷ drop (i + 1) xs
 rest xs i d h = rw (add-one i) (drop-cons xs i d h)
 
-pub place-hit : (ns : List ℕ) (i n : ℕ) → i < length ns → getD ns i 0 ≡ n → placeOf (drop i ns) n ≡ 0
-unfolding placeOf
-place-hit ns i n h e = rw (rest ns i 0 h, eq-eqb (getD ns i 0) n e)
+-- ---- the search for a name: one that begins behind so many names, a name at a time
+abbrev pub behind : ℕ → NameSearch → NameSearch
+behind k s = record { hit = s .hit; place = k + s .place; compared = k + s .compared }
 
-pub place-miss : (ns : List ℕ) (i n : ℕ) → i < length ns → (getD ns i 0 ≡ n → ⊥) → placeOf (drop i ns) n ≡ suc (placeOf (drop (i + 1) ns) n)
-unfolding placeOf
-place-miss ns i n h e = rw (rest ns i 0 h, ne-eqb (getD ns i 0) n e)
+pub same-search : {h : Bool} {p q c d : ℕ} → p ≡ q → c ≡ d → _≡_ {A = NameSearch} (record { hit = h; place = p; compared = c }) (record { hit = h; place = q; compared = d })
+same-search e f = rw (e, f) refl
 
-pub place-none : (ns : List ℕ) (i n : ℕ) → length ns ≤ i → placeOf (drop i ns) n ≡ 0
-unfolding placeOf
-place-none ns i n h = rw (drop-of-length-le ns h)
+pub find-all : (ns : List ℕ) (n : ℕ) → findName ns n ≡ behind 0 (findName (drop 0 ns) n)
+find-all ns n = same-search (omega arith) (omega arith)
+
+pub find-hit : (ns : List ℕ) (i n : ℕ) → i < length ns → getD ns i 0 ≡ n → behind i (findName (drop i ns) n) ≡ record { hit = true; place = i; compared = i + 1 }
+unfolding findName
+find-hit ns i n h e = rw (rest ns i 0 h, eq-eqb (getD ns i 0) n e) (same-search (omega arith) (omega arith))
+
+pub find-next : (ns : List ℕ) (i n : ℕ) → i < length ns → (getD ns i 0 ≡ n → ⊥) → behind i (findName (drop i ns) n) ≡ behind (i + 1) (findName (drop (i + 1) ns) n)
+unfolding findName
+find-next ns i n h e = rw (rest ns i 0 h, ne-eqb (getD ns i 0) n e) (same-search (omega arith) (omega arith))
+
+pub find-end : (ns : List ℕ) (i n : ℕ) → length ns ≤ i → behind i (findName (drop i ns) n) ≡ record { hit = false; place = i; compared = i }
+unfolding findName
+find-end ns i n h = rw (drop-of-length-le ns h) (same-search (omega arith) (omega arith))
 
 pub all-next : {A : Type 0} (p : A → Bool) (xs : List A) (i : ℕ) (d : A) → i < length xs → all p (drop i xs) ≡ (p (getD xs i d) && all p (drop (i + 1) xs))
 all-next p xs i d h = rw (rest xs i d h)
@@ -34,23 +46,29 @@ all-next p xs i d h = rw (rest xs i d h)
 pub all-none : {A : Type 0} (p : A → Bool) (xs : List A) (i : ℕ) → length xs ≤ i → all p (drop i xs) ≡ true
 all-none p xs i h = rw (drop-of-length-le xs h)
 
-pub twice-next : (ns : List ℕ) (i : ℕ) → i < length ns → hasTwice (drop i ns) ≡ (isAmong (getD ns i 0) (drop (i + 1) ns) || hasTwice (drop (i + 1) ns))
-unfolding hasTwice
-twice-next ns i h = rw (rest ns i 0 h)
+-- ---- the first place of a name
+-- a name is there, and not before
+pub place-holds : (ns : List ℕ) (n : ℕ) → placeOf ns n < length ns → getD ns (placeOf ns n) 0 ≡ n
+unfolding placeOf
+place-holds [] n = λ h. absurd (omega arith)
+place-holds (m ∷ ms) n = go (eqb m n) refl (place-holds ms n)
+  where
+    go : (b : Bool) → eqb m n ≡ b → {p l : ℕ} → (p < l → getD ms p 0 ≡ n) → cond b 0 (suc p) < suc l → getD (m ∷ ms) (cond b 0 (suc p)) 0 ≡ n
+    go true e f h = eqb-true m n e
+    go false e f h = f (omega arith)
 
-pub twice-none : (ns : List ℕ) (i : ℕ) → length ns ≤ i → hasTwice (drop i ns) ≡ false
-unfolding hasTwice
-twice-none ns i h = rw (drop-of-length-le ns h)
+pub place-first : (ns : List ℕ) (n i : ℕ) → i < placeOf ns n → getD ns i 0 ≡ n → ⊥
+unfolding placeOf
+place-first [] n i = λ h. absurd (omega arith)
+place-first (m ∷ ms) n i = go (eqb m n) refl (place-first ms n) i
+  where
+    go : (b : Bool) → eqb m n ≡ b → {p : ℕ} → ((i : ℕ) → i < p → getD ms i 0 ≡ n → ⊥) → (i : ℕ) → i < cond b 0 (suc p) → getD (m ∷ ms) i 0 ≡ n → ⊥
+    go true e f i h = absurd (omega arith)
+    go false e f zero h = eqb-false m n e
+    go false e f (suc i) h = f i (omega arith)
 
--- a name comes again: its next place is below the length
-pub among : (ns : List ℕ) (i p : ℕ) → i < length ns → p ≡ (i + 1) + placeOf (drop (i + 1) ns) (getD ns i 0) → p < length ns → isAmong (getD ns i 0) (drop (i + 1) ns) ≡ true
-among ns i p h e l = lt-ltb (placeOf (drop (i + 1) ns) (getD ns i 0)) (length (drop (i + 1) ns)) (omega (arith, length-drop (i + 1) ns))
-
-pub not-among : (ns : List ℕ) (i p : ℕ) → i < length ns → p ≡ (i + 1) + placeOf (drop (i + 1) ns) (getD ns i 0) → length ns ≤ p → isAmong (getD ns i 0) (drop (i + 1) ns) ≡ false
-not-among ns i p h e l = le-ltb (placeOf (drop (i + 1) ns) (getD ns i 0)) (length (drop (i + 1) ns)) (omega (arith, length-drop (i + 1) ns))
-
--- ---- names of which none comes twice differ
-place-below : (ns : List ℕ) (i : ℕ) → i < length ns → placeOf ns (getD ns i 0) < length ns
+-- one that is among the names has its first place among them
+pub place-below : (ns : List ℕ) (i : ℕ) → i < length ns → placeOf ns (getD ns i 0) < length ns
 unfolding placeOf
 place-below [] i h = absurd (omega arith)
 place-below (n ∷ ns) zero h = rw (eq-eqb n n refl) (omega arith)
@@ -60,6 +78,7 @@ place-below (n ∷ ns) (suc i) h = go (eqb n (getD ns i 0)) (place-below ns i (o
     go true h = omega arith
     go false h = omega arith
 
+-- ---- names of which none comes twice differ
 neither : (a b : Bool) → (a || b) ≡ false → (a ≡ false) × (b ≡ false)
 neither true b h = absurd (fails h tt)
 neither false b h = (refl, h)

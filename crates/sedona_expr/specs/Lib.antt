@@ -2,6 +2,7 @@ pub mod Calls
 pub mod Demand
 pub mod Error
 pub mod Marked
+pub mod Names
 pub mod Refusals
 pub mod SpatialFilter
 pub mod Statistics

@@ -13,13 +13,13 @@ use crate::error::NO_COLUMN;
 use crate::error::NO_LITERAL;
 use crate::error::UNKNOWN_KIND;
 use crate::error::WORDS;
+use crate::names::has_twice;
 use crate::tables::ENDS;
 use crate::tables::HAS_Z;
 use crate::tables::LAST_KIND;
 use crate::tables::NODE;
 use crate::tables::is_leaf;
 use crate::tables::is_pair;
-use crate::tables::place_of;
 use crate::tables::word;
 
 // The words of the largest table, and its nodes.
@@ -132,20 +132,6 @@ fn names_refusal(named: bool, names: &[u32], records: usize) -> u32
         return 0;
     }
     if names.len() == records { 0 } else { BOXES }
-}
-
-// Whether a name is twice among them.
-fn has_twice(names: &[u32]) -> bool
-    ensures { λ r. ⌜ r ≡ refusals.hasTwice (now (names .entry)) ⌝ }
-{
-    let mut i = 0;
-    while i < names.len() {
-        if place_of(names, i + 1, names[i]) < names.len() {
-            return true;
-        }
-        i += 1;
-    }
-    false
 }
 
 // By name: a name twice among the records.

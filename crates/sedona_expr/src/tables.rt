@@ -9,8 +9,9 @@
 // their set, and a byte: 1 where they are known.
 ghost use mathlib.Core.Path.{_≡_};
 ghost use Prim.Native.Nat.{_≤_, _+_, _*_};
-ghost use lib.ListN.{length, drop};
+ghost use lib.ListN.{length};
 ghost use Rattle.sedona_expr.specs.Tables as tables;
+use crate::names::find_name;
 use crate::statistics::Bbox;
 use crate::statistics::GeometryTypes;
 use sedona_geometry::bounding_box::BoundingBox;
@@ -167,27 +168,13 @@ pub(crate) fn literal_of(
     or_empty(b)
 }
 
-// The first place of a name from a place on; the length where it is not among the rest.
-pub(crate) fn place_of(names: &[u32], from: usize, name: u32) -> usize
-    requires { ⌜ from ≤ length (now names) ⌝ }
-    ensures { λ r. ⌜ r ≡ from + tables.placeOf (drop from (now (names .entry))) name ⌝ }
-{
-    let mut i = from;
-    while i < names.len() {
-        if names[i] == name {
-            return i;
-        }
-        i += 1;
-    }
-    i
-}
-
 // The place of a leaf's record: by its index, or by its name.
 fn place(named: bool, names: &[u32], index: u32, name: u32) -> usize
     ensures { λ r. ⌜ r ≡ tables.place (tables.lookup named (now (names .entry))) (tables.column index name) ⌝ }
 {
     if named {
-        place_of(names, 0, name)
+        let found = find_name(names, name);
+        found.place
     } else {
         index as usize
     }

@@ -218,6 +218,34 @@ impl Case for FilterCase {
     }
 }
 
+/// For a search for a name, and for a filter over many columns: its tables, and a name.
+pub struct WideCase {
+    pub tables: Tables,
+    pub name: u32,
+}
+
+impl Case for WideCase {
+    /// The oracle's columns; of three lists one has names of any bits, and of three one has a name in
+    /// two drawn places. The filter asks for these columns.
+    fn draw(random: &mut Random) -> Self {
+        let mut names = random.many().names();
+        if random.below(3) == 0 {
+            names.fill_with(|| random.bits() as u32);
+        }
+        if random.below(3) == 0 && !names.is_empty() {
+            let [place, other] = array::from_fn(|_| random.below(names.len()));
+            names[place] = names[other];
+        }
+        let name = random.one_of(&names);
+        let mut tables = random.tables();
+        random.ask(&mut tables, &names);
+        WideCase {
+            tables: tables.over(names),
+            name,
+        }
+    }
+}
+
 /// Makes each And an Or.
 fn drop_ands(nodes: &mut [u32]) {
     for kind in nodes.iter_mut().step_by(4) {

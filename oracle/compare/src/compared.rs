@@ -73,6 +73,7 @@ impl Given {
 pub type Words = [&'static str; 2];
 
 pub const TEST: Words = ["no", "yes"];
+pub const SEARCH: Words = ["none", "hit"];
 pub const EVALUATION: Words = ["cannot match", "may match"];
 pub const NUMBER: Words = ["given", "refused 1"];
 

@@ -1,10 +1,12 @@
-//! The calls of filters.
+//! The calls of filters, and the search for a name.
 
-use crate::cases::FilterCase;
-use crate::compared::{Answer, Call, EVALUATION, Expected, Given, NUMBER};
-use crate::layout::Bounds;
+use crate::cases::{FilterCase, WideCase};
+use crate::compared::{Answer, Call, EVALUATION, Expected, Given, NUMBER, SEARCH};
+use crate::layout::{Bounds, Found};
 use crate::library;
-use oracle::filters::Lookup;
+use johikape::raw;
+use oracle::filters::{Lookup, Tables};
+use oracle::names::find_name;
 
 pub fn calls() -> Vec<Call<FilterCase>> {
     vec![
@@ -12,13 +14,13 @@ pub fn calls() -> Vec<Call<FilterCase>> {
             "evaluate_by_position",
             EVALUATION,
             |case: &FilterCase| Answer::number(library::evaluate_by_position(&case.tables)).into(),
-            |case| evaluate(case, Lookup::ByPosition),
+            |case| evaluate(&case.tables, Lookup::ByPosition),
         ),
         Call::new(
             "evaluate_by_name",
             EVALUATION,
             |case: &FilterCase| Answer::number(library::evaluate_by_name(&case.tables)).into(),
-            |case| evaluate(case, Lookup::ByName),
+            |case| evaluate(&case.tables, Lookup::ByName),
         ),
         Call::new(
             "filter_bbox",
@@ -36,8 +38,36 @@ pub fn calls() -> Vec<Call<FilterCase>> {
     ]
 }
 
-fn evaluate(case: &FilterCase, lookup: Lookup) -> Expected {
-    match case.tables.may_match(lookup) {
+/// The calls that go through names, over many of them.
+pub fn wide_calls() -> Vec<Call<WideCase>> {
+    vec![
+        Call::new(
+            "find_name",
+            SEARCH,
+            |WideCase { tables, name }| {
+                Given::lent(Found::PATTERN, |out| {
+                    raw::find_name(&tables.names, *name, &mut out.place, &mut out.compared).into()
+                })
+            },
+            |WideCase { tables, name }| {
+                let search = find_name(&tables.names, *name);
+                Ok(Answer {
+                    number: search.is_hit.into(),
+                    written: Found::of(&search).into(),
+                })
+            },
+        ),
+        Call::new(
+            "evaluate_by_name, wide",
+            EVALUATION,
+            |case: &WideCase| Answer::number(library::evaluate_by_name(&case.tables)).into(),
+            |case| evaluate(&case.tables, Lookup::ByName),
+        ),
+    ]
+}
+
+fn evaluate(tables: &Tables, lookup: Lookup) -> Expected {
+    match tables.may_match(lookup) {
         Ok(may_match) => Ok(Answer::number(may_match.into())),
         Err(number) => Err(number as u32),
     }

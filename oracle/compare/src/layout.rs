@@ -4,6 +4,7 @@ use johikape::Interval;
 use oracle::bounding_box::BoundingBox;
 use oracle::filters::bounds;
 use oracle::interval::IntervalTrait;
+use oracle::names::Search;
 use oracle::records::{EXTENTS, TOTALS, WITH_EXTENT, WITH_TOTAL};
 use oracle::statistics::GeoStatistics;
 use oracle::types::GeometryTypeAndDimensionsSet as Set;
@@ -85,6 +86,27 @@ impl Array {
         Array {
             numbers,
             count: array.len(),
+        }
+    }
+}
+
+/// What a search for a name writes.
+#[derive(Clone, Copy)]
+pub struct Found {
+    pub place: usize,
+    pub compared: usize,
+}
+
+impl Found {
+    pub const PATTERN: Found = Found {
+        place: usize::from_ne_bytes([PATTERN; size_of::<usize>()]),
+        compared: usize::from_ne_bytes([PATTERN; size_of::<usize>()]),
+    };
+
+    pub fn of(search: &Search) -> Found {
+        Found {
+            place: search.place,
+            compared: search.compared,
         }
     }
 }
@@ -212,6 +234,16 @@ impl From<Array> for Record {
             flags: array.count as u32,
             ..Record::from(&array.numbers[..])
         }
+    }
+}
+
+/// With the place and the count as totals.
+impl From<Found> for Record {
+    fn from(found: Found) -> Record {
+        let mut record = Record::NONE;
+        record.totals[0] = found.place as i64;
+        record.totals[1] = found.compared as i64;
+        record
     }
 }
 

@@ -25,6 +25,10 @@ const COUNT: u64 = 10_000_000;
 /// fast, and come twice as often.
 const TURNS: [usize; 8] = [0, 0, 1, 1, 2, 3, 4, 5];
 
+/// The group of wide tables, which are made slowly: of so many turns it has one.
+const WIDE: usize = 6;
+const ONE_WIDE_IN: usize = 32;
+
 fn main() -> ExitCode {
     let Some((seed, count)) = read_arguments() else {
         eprintln!("{USAGE}");
@@ -54,19 +58,23 @@ fn read_arguments() -> Option<(u64, u64)> {
 
 /// Makes the calls; gives the table of what they gave, or the first difference.
 fn compare(seed: u64, count: u64) -> Result<String, String> {
-    let mut groups: [Box<dyn Group>; 6] = [
+    let mut groups: [Box<dyn Group>; 7] = [
         Box::new(intervals::calls()),
         Box::new(boxes::calls()),
         Box::new(records::merges()),
         Box::new(records::folds()),
         Box::new(filters::calls()),
         Box::new(geoparquet::calls()),
+        Box::new(filters::wide_calls()),
     ];
     let values = cases::values();
     let mut random = Random::new(seed, &values);
     let mut made = 0;
     while made < count {
-        let place = TURNS[random.below(TURNS.len())];
+        let place = match random.below(ONE_WIDE_IN) {
+            0 => WIDE,
+            _ => TURNS[random.below(TURNS.len())],
+        };
         let more = groups[place].compare(&mut random);
         made += more.map_err(|case| format!("seed {seed}, after {made} calls: {case}"))?;
     }

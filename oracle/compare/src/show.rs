@@ -1,6 +1,6 @@
 //! Cases and what calls gave, as text: each double by its bits and as a number.
 
-use crate::cases::{BoxCase, FilterCase, IntervalCase, LayoutCase, RecordCase};
+use crate::cases::{BoxCase, FilterCase, IntervalCase, LayoutCase, RecordCase, WideCase};
 use crate::layout::{Bounds, Record, Records};
 use johikape::Interval;
 use oracle::filters::Boxes;
@@ -84,6 +84,16 @@ impl Display for FilterCase {
         show_boxes(f, "records", &tables.records)?;
         writeln!(f, "record types: {:?}", tables.record_types)?;
         writeln!(f, "types known: {:?}", tables.types_known)?;
+        write!(f, "names: {:?}\nname: {}", tables.names, self.name)
+    }
+}
+
+/// The records are not shown: the x of each is its place, and all else 0.
+impl Display for WideCase {
+    fn fmt(&self, f: &mut Formatter<'_>) -> Result {
+        let tables = &self.tables;
+        writeln!(f, "nodes: {:?}", tables.nodes)?;
+        show_boxes(f, "literals", &tables.literals)?;
         write!(f, "names: {:?}\nname: {}", tables.names, self.name)
     }
 }

@@ -1,0 +1,93 @@
+// Calls over many columns, more than a line can spell. Their names go up from 0 by a step, and the last
+// has a name of its own; the x of each record is its place.
+use crate::filters::first_doubles;
+use crate::filters::first_flags;
+use crate::filters::first_words;
+use crate::filters::put_evaluation;
+use crate::filters::put_search;
+use crate::names::FIND_NAME;
+use crate::tables::Nodes;
+use crate::tables::Tables;
+use replay_geometry::names::Call;
+use replay_text::output::Buffer;
+use replay_text::output::put;
+use replay_text::words::Words;
+use sedona_expr::names::find_name;
+use sedona_expr::spatial_filter::Evaluation;
+use sedona_expr::spatial_filter::evaluate_by_name;
+use std::num::wrapping_add_u32;
+
+// The most columns, and the ends of their boxes.
+const MOST: usize = 1024;
+
+const MOST_ENDS: usize = 8192;
+
+// Puts what a call answers. The words end with how many columns there are, the step, and the last name.
+pub fn put_call_of_many(
+    out: &mut Buffer,
+    filled: usize,
+    call: Call,
+    words: Words,
+    nodes: &Nodes,
+    tables: Tables,
+) -> usize {
+    let sets = words.sets;
+    if call.name == FIND_NAME {
+        let count = sets[1] as usize;
+        if !words.are_sets || count > MOST {
+            return put(out, filled, b'?');
+        }
+        let names = names_of(count, sets[2], sets[3]);
+        return put_search(out, filled, find_name(first_words(count, &names), sets[0]));
+    }
+    let count = sets[0] as usize;
+    if !words.are_sets || count > MOST {
+        return put(out, filled, b'?');
+    }
+    let names = names_of(count, sets[1], sets[2]);
+    put_evaluation(
+        out,
+        filled,
+        evaluate(first_words(count, &names), nodes, tables),
+    )
+}
+
+// The names of so many columns.
+fn names_of(count: usize, step: u32, last: u32) -> [u32; MOST] {
+    let mut names = [0; MOST];
+    let mut next = 0;
+    for i in 0..MOST {
+        names[i] = if i + 1 == count { last } else { next };
+        next = wrapping_add_u32(next, step);
+    }
+    names
+}
+
+// The ends of boxes whose x are their places.
+fn ends() -> [f64; MOST_ENDS] {
+    let mut ends = [0.0; MOST_ENDS];
+    let mut place = 0.0;
+    for i in 0..MOST {
+        ends[8 * i] = place;
+        ends[8 * i + 1] = place;
+        place = place + 1.0;
+    }
+    ends
+}
+
+// Whether the filter may match, over columns with these names.
+fn evaluate(names: &[u32], nodes: &Nodes, tables: Tables) -> Evaluation {
+    let literals = tables.literals;
+    let literal_flags = tables.literal_flags;
+    let count = names.len();
+    evaluate_by_name(
+        first_words(tables.node_words, nodes),
+        first_doubles(literals.count, &literals.list),
+        first_flags(literal_flags.count, &literal_flags.list),
+        first_doubles(count % (MOST + 1) * 8, &ends()),
+        first_flags(count, &[1; MOST]),
+        first_words(count, &[0; MOST]),
+        first_flags(count, &[0; MOST]),
+        names,
+    )
+}

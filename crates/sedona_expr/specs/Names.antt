@@ -1,0 +1,31 @@
+-- A search for a name among names: whether one is a hit, where, and how many names were compared.
+use mathlib.Core.Bool.{Bool, true, false, cond}
+use mathlib.Core.List.{List, [], _∷_}
+use Prim.Native.Nat.{ℕ, suc, _/_, _%_, _^_}
+use lib.Bits.{bitOr}
+use lib.Dec.{eqb}
+use Rattle.sedona_expr.specs.declared.names.NameSearch.{NameSearch}
+
+-- "End at the first hit": one name was compared.
+abbrev pub hitAtOnce : NameSearch
+hitAtOnce = record { hit = true; place = 0; compared = 1 }
+
+-- There is none to compare.
+abbrev pub noName : NameSearch
+noName = record { hit = false; place = 0; compared = 0 }
+
+-- Behind a name that was compared and is no hit.
+abbrev pub further : NameSearch → NameSearch
+further s = record { hit = s .hit; place = suc (s .place); compared = suc (s .compared) }
+
+-- From the first name on.
+unfoldable pub findName : List ℕ → ℕ → NameSearch
+findName [] n = noName
+findName (m ∷ ms) n = cond (eqb m n) hitAtOnce (further (findName ms n))
+
+-- ---- marks, each a bit of a word
+abbrev pub hasBit : ℕ → ℕ → Bool
+hasBit w b = eqb (w / 2 ^ b % 2) 1
+
+abbrev pub withBit : ℕ → ℕ → ℕ
+withBit w b = bitOr w (2 ^ b)
