@@ -75,7 +75,8 @@ fn ends() -> [f64; MOST_ENDS] {
     ends
 }
 
-// Whether the filter may match, over columns with these names.
+// Whether the filter may match, over columns with these names. (The remainder changes no count that
+// there can be.)
 fn evaluate(names: &[u32], nodes: &Nodes, tables: Tables) -> Evaluation {
     let literals = tables.literals;
     let literal_flags = tables.literal_flags;

@@ -1,16 +1,16 @@
 -- Whether a name comes twice, as a search before each name tells; and marks that tell that a name is new. Assumes nothing.
 use mathlib.Core.Path.{_≡_, refl, sym, subst, ap, _∙_}
-use mathlib.Core.Bool.{Bool, true, false, _||_}
+use mathlib.Core.Bool.{Bool, true, false}
 use mathlib.Core.List.{List, [], _∷_}
 use Prim.Native.Nat.{ℕ, suc, _+_, _≤_, _<_}
 use native.Mathlib.Omega.{arith}
 use lib.Dec.{eqb, ltb}
-use lib.ListN.{length, getD, set, take, length-set}
+use lib.ListN.{length, getD, set, take}
 use lib.Seq.{getD-take, length-take-le, getD-set-same, getD-set-other}
 use borrow.Author.Tests.{eqb-true, eqb-false, ltb-true, ltb-false, le-ltb}
-use Rattle.sedona_expr.specs.Names.{findName, hasBit, withBit}
+use Rattle.sedona_expr.specs.Names.{findName, comesBefore, hasBit, withBit}
 use Rattle.sedona_expr.specs.Tables.{placeOf}
-use Rattle.sedona_expr.specs.Refusals.{isAmong, hasTwice}
+use Rattle.sedona_expr.specs.Refusals.{hasTwice}
 use Rattle.sedona_expr.proofs.Searches.{place-holds, once-differ}
 use Rattle.sedona_expr.proofs.NameSearches.{hit-is-first, no-hit}
 use Rattle.sedona_expr.proofs.Masks.{bit-is-set, bit-stays}
@@ -45,7 +45,7 @@ differ-all ns k h d = differ-once ns (λ j l. d j (omega arith))
 
 -- ---- by a search among the names before
 -- a hit is one of them
-is-before : (ns : List ℕ) (k : ℕ) → k < length ns → findName (take k ns) (getD ns k 0) .hit ≡ true → (i : ℕ) × ((i < k) × (getD ns i 0 ≡ getD ns k 0))
+is-before : (ns : List ℕ) (k : ℕ) → k < length ns → comesBefore ns k ≡ true → (i : ℕ) × ((i < k) × (getD ns i 0 ≡ getD ns k 0))
 is-before ns k h e = (p, (before, sym (getD-take k ns p 0 before) ∙ first .1 .0))
   where
     p : ℕ
@@ -57,14 +57,14 @@ is-before ns k h e = (p, (before, sym (getD-take k ns p 0 before) ∙ first .1 .
     before : p < k
     before = omega (arith, first .0, length-take-le k ns (omega arith))
 
-pub hit-before : (ns : List ℕ) (k : ℕ) → k < length ns → findName (take k ns) (getD ns k 0) .hit ≡ true → hasTwice ns ≡ true
+pub hit-before : (ns : List ℕ) (k : ℕ) → k < length ns → comesBefore ns k ≡ true → hasTwice ns ≡ true
 hit-before ns k h e = go (hasTwice ns) refl (is-before ns k h e)
   where
     go : (b : Bool) → hasTwice ns ≡ b → (i : ℕ) × ((i < k) × (getD ns i 0 ≡ getD ns k 0)) → b ≡ true
     go true o f = refl
     go false o f = absurd (omega (arith, f .1 .0, once-differ ns o (f .0) k (omega (arith, f .1 .0)) h (f .1 .1)))
 
-pub none-before : (ns : List ℕ) (k : ℕ) → k < length ns → findName (take k ns) (getD ns k 0) .hit ≡ false → New ns k
+pub none-before : (ns : List ℕ) (k : ℕ) → k < length ns → comesBefore ns k ≡ false → New ns k
 none-before ns k h e i l f = no-hit (take k ns) (getD ns k 0) e i (omega (arith, length-take-le k ns (omega arith))) (getD-take k ns i 0 l ∙ f)
 
 -- ---- by marks: where a name's is, which word and which bit of it, is any function of the name
@@ -78,10 +78,10 @@ module _ (word bit : ℕ → ℕ) where
   Marked ms ns k = (i : ℕ) → i < k → isMarked ms (getD ns i 0) ≡ true
 
   -- a name whose mark is clear is new
-  pub clear-is-new : (ms ns : List ℕ) (k : ℕ) → k < length ns → Marked ms ns k → isMarked ms (getD ns k 0) ≡ false → findName (take k ns) (getD ns k 0) .hit ≡ false
-  clear-is-new ms ns k l m e = go (findName (take k ns) (getD ns k 0) .hit) refl
+  pub clear-is-new : (ms ns : List ℕ) (k : ℕ) → k < length ns → Marked ms ns k → isMarked ms (getD ns k 0) ≡ false → comesBefore ns k ≡ false
+  clear-is-new ms ns k l m e = go (comesBefore ns k) refl
     where
-      go : (b : Bool) → findName (take k ns) (getD ns k 0) .hit ≡ b → b ≡ false
+      go : (b : Bool) → comesBefore ns k ≡ b → b ≡ false
       go true h = marked ∙ e
         where
           before : (i : ℕ) × ((i < k) × (getD ns i 0 ≡ getD ns k 0))

@@ -1,9 +1,10 @@
--- A search for a name among names: whether one is a hit, where, and how many names were compared.
+-- The search for a name among names: whether there is a hit, where, and how many names were compared. And what tells whether one comes twice.
 use mathlib.Core.Bool.{Bool, true, false, cond}
 use mathlib.Core.List.{List, [], _∷_}
 use Prim.Native.Nat.{ℕ, suc, _/_, _%_, _^_}
 use lib.Bits.{bitOr}
 use lib.Dec.{eqb}
+use lib.ListN.{getD, take}
 use Rattle.sedona_expr.specs.declared.names.NameSearch.{NameSearch}
 
 -- "End at the first hit": one name was compared.
@@ -23,7 +24,11 @@ unfoldable pub findName : List ℕ → ℕ → NameSearch
 findName [] n = noName
 findName (m ∷ ms) n = cond (eqb m n) hitAtOnce (further (findName ms n))
 
--- ---- marks, each a bit of a word
+-- ---- a name twice, looked for by a search before each name
+abbrev pub comesBefore : List ℕ → ℕ → Bool
+comesBefore ns i = findName (take i ns) (getD ns i 0) .hit
+
+-- Marks, each a bit of a word.
 abbrev pub hasBit : ℕ → ℕ → Bool
 hasBit w b = eqb (w / 2 ^ b % 2) 1
 

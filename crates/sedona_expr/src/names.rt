@@ -2,8 +2,8 @@
 ghost use mathlib.Core.Path.{_≡_};
 ghost use mathlib.Core.Bool.{false};
 ghost use Prim.Native.Nat.{_<_};
-ghost use lib.ListN.{length, getD, take};
-ghost use Rattle.sedona_expr.specs.Names.{findName, hasBit, withBit};
+ghost use lib.ListN.{length};
+ghost use Rattle.sedona_expr.specs.Names.{findName, comesBefore, hasBit, withBit};
 ghost use Rattle.sedona_expr.specs.Refusals as refusals;
 
 // What a search for a name gives.
@@ -40,10 +40,21 @@ pub fn find_name(names: &[u32], name: u32) -> NameSearch
 // Whether the name at a place is one of those before it.
 fn comes_before(names: &[u32], i: usize) -> bool
     requires { ⌜ i < length (now names) ⌝ }
-    ensures { λ r. ⌜ r ≡ findName (take i (now (names .entry))) (getD (now (names .entry)) i 0) .hit ⌝ }
+    ensures { λ r. ⌜ r ≡ comesBefore (now (names .entry)) i ⌝ }
 {
     let found = find_name(&names[..i], names[i]);
     found.hit
+}
+
+// The same, where only a name that is marked can be one of them.
+fn comes_again(names: &[u32], i: usize, is_marked: bool) -> bool
+    requires { ⌜ (i < length (now names)) × («is_marked» ≡ false → comesBefore (now names) i ≡ false) ⌝ }
+    ensures { λ r. ⌜ r ≡ comesBefore (now (names .entry)) i ⌝ }
+{
+    if is_marked {
+        return comes_before(names, i);
+    }
+    false
 }
 
 // Whether a name comes twice, each looked for among those before it.
@@ -56,17 +67,6 @@ fn has_twice_by_pairs(names: &[u32]) -> bool
             return true;
         }
         i += 1;
-    }
-    false
-}
-
-// The same, where only a name that is marked can be one of them.
-fn comes_again(names: &[u32], i: usize, is_marked: bool) -> bool
-    requires { ⌜ (i < length (now names)) × («is_marked» ≡ false → findName (take i (now names)) (getD (now names) i 0) .hit ≡ false) ⌝ }
-    ensures { λ r. ⌜ r ≡ findName (take i (now (names .entry))) (getD (now (names .entry)) i 0) .hit ⌝ }
-{
-    if is_marked {
-        return comes_before(names, i);
     }
     false
 }
@@ -87,10 +87,11 @@ fn with_bit(word: u64, bit: u32) -> u64
     word | 1 << bit
 }
 
-// The marks are the bits of so many words. The 14 low bits of a name tell its mark: 8 of them the word,
-// so that names that follow each other have different words, and the next 6 the bit.
+// The marks are the bits of so many words. 14 low bits of a name tell its mark: 8 the word, so that
+// names side by side have different words, and the next 6 the bit.
 const WORDS: usize = 256;
 
+// The same number, for names.
 const LOW: u32 = 256;
 
 // Whether a name comes twice, by marks that are all clear at first: a name whose mark is clear is new,
@@ -113,7 +114,7 @@ fn has_twice_by_marks(names: &[u32]) -> bool
     false
 }
 
-// The most names that are compared in pairs, which takes no longer than to clear the marks.
+// The most names that are looked for in pairs. More are quicker by marks, which take time to clear.
 const FEW: usize = 12;
 
 // Whether a name is twice among them.

@@ -2,7 +2,6 @@
 use mathlib.Core.Path.{sym, _∙_}
 use Prim.Native.Nat.{_-_, _≤_}
 use native.Mathlib.Omega.{arith}
-use native.Mathlib.Nat.{le-antisymm}
 use lib.ListN.{length}
 use Rattle.sedona_expr.proofs.Twice.{Differ, differ-next, differ-all, hit-before, none-before}
 use borrow.Author.Needs.{needs}

@@ -1,5 +1,4 @@
 -- `tables::place` meets its contract. Assumes nothing.
-use mathlib.Core.Path.{ap, _∙_}
 use Rattle.sedona_expr.specs.Tables.{place}
 use Rattle.sedona_expr.proofs.NameSearches.{find-counts}
 use Rattle.sedona_expr.proofs.tables.place.Statement.{statement}
