@@ -12,6 +12,7 @@ use replay_geometry::names::Call;
 use replay_text::output::Buffer;
 use replay_text::output::put;
 use replay_text::words::Words;
+use sedona_expr::names::NameSearch;
 use sedona_expr::names::find_name;
 use sedona_expr::spatial_filter::Evaluation;
 use sedona_expr::spatial_filter::evaluate_by_name;
@@ -32,23 +33,46 @@ pub fn put_call_of_many(
     tables: Tables,
 ) -> usize {
     let sets = words.sets;
-    if call.name == FIND_NAME {
-        let count = sets[1] as usize;
-        if !words.are_sets || count > MOST {
-            return put(out, filled, b'?');
-        }
-        let names = names_of(count, sets[2], sets[3]);
-        return put_search(out, filled, find_name(first_words(count, &names), sets[0]));
-    }
-    let count = sets[0] as usize;
-    if !words.are_sets || count > MOST {
+    if !words.are_sets {
         return put(out, filled, b'?');
     }
-    let names = names_of(count, sets[1], sets[2]);
-    put_evaluation(
-        out,
-        filled,
-        evaluate(first_words(count, &names), nodes, tables),
+    if call.name == FIND_NAME {
+        if sets[1] > MOST as u32 {
+            return put(out, filled, b'?');
+        }
+        return put_search(
+            out,
+            filled,
+            find(sets[0], sets[1] as usize, sets[2], sets[3]),
+        );
+    }
+    if sets[0] > MOST as u32 {
+        return put(out, filled, b'?');
+    }
+    let evaluation = evaluate(sets[0] as usize, sets[1], sets[2], nodes, tables);
+    put_evaluation(out, filled, evaluation)
+}
+
+// What the search for a name gives.
+fn find(name: u32, count: usize, step: u32, last: u32) -> NameSearch {
+    let names = names_of(count, step, last);
+    find_name(first_words(count, &names), name)
+}
+
+// Whether the filter may match. (The remainder changes no count that is asked for.)
+fn evaluate(count: usize, step: u32, last: u32, nodes: &Nodes, tables: Tables) -> Evaluation {
+    let literals = tables.literals;
+    let literal_flags = tables.literal_flags;
+    let names = names_of(count, step, last);
+    evaluate_by_name(
+        first_words(tables.node_words, nodes),
+        first_doubles(literals.count, &literals.list),
+        first_flags(literal_flags.count, &literal_flags.list),
+        first_doubles(count % (MOST + 1) * 8, &ends()),
+        first_flags(count, &[1; MOST]),
+        first_words(count, &[0; MOST]),
+        first_flags(count, &[0; MOST]),
+        first_words(count, &names),
     )
 }
 
@@ -73,22 +97,4 @@ fn ends() -> [f64; MOST_ENDS] {
         place = place + 1.0;
     }
     ends
-}
-
-// Whether the filter may match, over columns with these names. (The remainder changes no count that
-// there can be.)
-fn evaluate(names: &[u32], nodes: &Nodes, tables: Tables) -> Evaluation {
-    let literals = tables.literals;
-    let literal_flags = tables.literal_flags;
-    let count = names.len();
-    evaluate_by_name(
-        first_words(tables.node_words, nodes),
-        first_doubles(literals.count, &literals.list),
-        first_flags(literal_flags.count, &literal_flags.list),
-        first_doubles(count % (MOST + 1) * 8, &ends()),
-        first_flags(count, &[1; MOST]),
-        first_words(count, &[0; MOST]),
-        first_flags(count, &[0; MOST]),
-        names,
-    )
 }
