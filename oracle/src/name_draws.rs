@@ -6,7 +6,7 @@ use crate::names::{MOST_COLUMNS, Many};
 use crate::random::Random;
 
 /// From a name to the next. The large ones leave the low bits as they are.
-const STEPS: [u32; 7] = [0, 1, 2, 3, 1024, 16384, 65536];
+const STEPS: [u32; 7] = [0, 1, 2, 3, 512, 32768, 65536];
 
 impl Random<'_> {
     /// Many columns: a few, some, about 900 or any number. Of eight steps one is any odd number, with

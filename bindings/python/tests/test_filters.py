@@ -183,7 +183,7 @@ class Trees(unittest.TestCase):
             self.assertIs(wanted.evaluate_by_position(records), answer)
 
     def test_names_with_the_same_low_bits_are_not_the_same(self):
-        for count in (12, 13, 900):
+        for count in (14, 15, 900):
             records = [(k * 65_536, HIGH) for k in range(count - 1)] + [((count - 1) * 65_536, LOW)]
             for k, answer in [(0, MAY), (count - 2, MAY), (count - 1, CANNOT), (count, MAY)]:
                 wanted = Filter.intersects(Column(0, k * 65_536), HIGH)
@@ -213,7 +213,7 @@ class Refusals(unittest.TestCase):
     def test_name_twice(self):
         self.refused(11, Filter.unknown().evaluate_by_name, [(40, LOW), (41, LOW), (40, LOW)])
         for step in (1, 65_536, 1_234_567):
-            for count in (12, 13, 900):
+            for count in (14, 15, 900):
                 records = [(k * step, LOW) for k in range(count)]
                 self.assertIs(Filter.unknown().evaluate_by_name(records), MAY)
                 records[-1] = records[0]

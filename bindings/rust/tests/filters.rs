@@ -346,7 +346,7 @@ fn a_name_is_found_among_1_000() {
 #[test]
 fn names_with_the_same_low_bits_are_not_the_same() {
     let named = |k, x| Filter::intersects(Column::named(0, k * 65_536), strip(x, x));
-    for count in [12, 13, 900] {
+    for count in [14, 15, 900] {
         let columns: Vec<(u32, GeoStatistics)> = (0..count)
             .map(|k| (k * 65_536, record(f64::from(k), f64::from(k))))
             .collect();
@@ -362,7 +362,7 @@ fn names_with_the_same_low_bits_are_not_the_same() {
 fn a_name_at_both_ends_is_refused() {
     let kinds: [fn(u32) -> u32; 3] = [|k| k, |k| k * 65_536, |k| k.wrapping_mul(0x9e37_79b9)];
     for kind in kinds {
-        for count in [12, 13, 900] {
+        for count in [14, 15, 900] {
             let mut columns: Vec<(u32, GeoStatistics)> =
                 (0..count).map(|k| (kind(k), record(0.0, 1.0))).collect();
             assert_eq!(ask_by_name(&near(), &columns), Ok(MayMatch));

@@ -87,12 +87,12 @@ fn with_bit(word: u64, bit: u32) -> u64
     word | 1 << bit
 }
 
-// The marks are the bits of so many words. 14 low bits of a name tell its mark: 8 the word, so that
+// The marks are the bits of so many words. 15 low bits of a name tell its mark: 9 the word, so that
 // names side by side have different words, and the next 6 the bit.
-const WORDS: usize = 256;
+const WORDS: usize = 512;
 
 // The same number, for names.
-const LOW: u32 = 256;
+const LOW: u32 = 512;
 
 // Whether a name comes twice, by marks that are all clear at first: a name whose mark is clear is new,
 // and only where it is set are the names before looked through.
@@ -115,7 +115,7 @@ fn has_twice_by_marks(names: &[u32]) -> bool
 }
 
 // The most names that are looked for in pairs. More are quicker by marks, which take time to clear.
-const FEW: usize = 12;
+const FEW: usize = 14;
 
 // Whether a name is twice among them.
 pub(crate) fn has_twice(names: &[u32]) -> bool

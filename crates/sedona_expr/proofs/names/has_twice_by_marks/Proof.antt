@@ -11,19 +11,19 @@ use Rattle.sedona_expr.proofs.names.has_twice_by_marks.Tie as tie
 
 -- Where a name's mark is.
 abbrev word : ℕ → ℕ
-word n = n % 256
+word n = n % 512
 
 abbrev bit : ℕ → ℕ
-bit n = n / 256 % 64
+bit n = n / 512 % 64
 
 abbrev Inv-loop : tie.InvT-loop
-Inv-loop names marks₀ i₀ marks i = (i ≤ length names) × ((length marks ≡ 256) × (Differ names i × Marked word bit marks names i))
+Inv-loop names marks₀ i₀ marks i = (i ≤ length names) × ((length marks ≡ 512) × (Differ names i × Marked word bit marks names i))
 
 abbrev μ-loop : tie.MeasureT-loop
 μ-loop names marks₀ i₀ marks i = length names - i
 
 loop-holds : tie.Need-loop-holds Inv-loop μ-loop
-loop-holds c = (omega arith, (length-replicate {A = ℕ} 256 0, (λ j h. absurd (omega arith), λ j h. absurd (omega arith))))
+loop-holds c = (omega arith, (length-replicate {A = ℕ} 512 0, (λ j h. absurd (omega arith), λ j h. absurd (omega arith))))
 
 cast-word : tie.Need-cast-word Inv-loop μ-loop
 cast-word c = record { fits = omega arith }
