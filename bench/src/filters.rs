@@ -124,7 +124,7 @@ impl Query {
             self.row(name),
             |file| self.tree.evaluate(&file.by_name),
             answer,
-            by(ByName::linked()),
+            by(bench.now),
             bench.before.map(by),
         );
     }

@@ -11,10 +11,11 @@ use std::{array, env};
 const BATCH: Duration = Duration::from_micros(50);
 const FEWEST_ROUNDS: usize = 15;
 
-/// Which rows are timed, for how long, and the earlier library that is timed beside.
+/// Which rows are timed, for how long, the library and the earlier one that is timed beside it.
 pub struct Bench {
     words: Vec<String>,
     budget: Duration,
+    pub now: ByName,
     pub before: Option<ByName>,
 }
 
@@ -30,13 +31,12 @@ impl Bench {
         let milliseconds = env::var("BENCH_MS").map_or(300, |text| {
             text.parse().expect("BENCH_MS is a whole number")
         });
-        let before = env::var("BENCH_BEFORE").ok();
+        let loaded = |variable| env::var(variable).ok().map(|path| ByName::loaded(&path));
         Bench {
             words: env::args().skip(1).collect(),
             budget: Duration::from_millis(milliseconds),
-            before: before
-                .filter(|path| !path.is_empty())
-                .map(|path| ByName::loaded(&path)),
+            now: loaded("BENCH_NOW").unwrap_or_else(ByName::linked),
+            before: loaded("BENCH_BEFORE"),
         }
     }
 
