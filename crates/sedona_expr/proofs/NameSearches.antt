@@ -7,19 +7,14 @@ use native.Mathlib.Omega.{arith}
 use lib.Dec.{eqb, ltb}
 use lib.ListN.{length, getD}
 use borrow.Author.Tests.{ltb-true, ltb-false, lt-ltb, le-ltb}
-use Rattle.sedona_expr.specs.Names.{hitAtOnce, further, findName}
+use Rattle.sedona_expr.specs.Names.{hitAtOnce, further, findName, firstAt}
 use Rattle.sedona_expr.specs.SpatialFilter.{Column, Filter, intersects, covers, hasZ, and, or, literalFalse, unknown, answer}
 use Rattle.sedona_expr.specs.Tables.{Records, recordAt, Table, root, byName, placeOf, place, recordOf}
 use Rattle.sedona_expr.specs.Refusals.{refusal}
 use Rattle.sedona_expr.specs.Calls.{outcome, evaluate}
-use Rattle.sedona_expr.specs.declared.names.NameSearch.{NameSearch}
 use Rattle.sedona_expr.specs.declared.spatial_filter.Evaluation.{Evaluation}
 use Rattle.sedona_expr.specs.declared.tables.ColumnRecord.{ColumnRecord}
 use Rattle.sedona_expr.proofs.Searches.{same-search, place-holds, place-first, place-below}
-
--- "The hit's place counted from 1, or all of them where there is none": of so many names, the first hit at a place, or none below their number.
-abbrev pub firstAt : ℕ → ℕ → NameSearch
-firstAt p l = record { hit = ltb p l; place = p; compared = cond (ltb p l) (p + 1) l }
 
 first-behind : (p l : ℕ) → further (firstAt p l) ≡ firstAt (suc p) (suc l)
 first-behind p l = go (ltb p l) refl

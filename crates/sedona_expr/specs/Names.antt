@@ -1,9 +1,9 @@
 -- The search for a name among names: whether there is a hit, where, and how many names were compared. And what tells whether one comes twice.
 use mathlib.Core.Bool.{Bool, true, false, cond}
 use mathlib.Core.List.{List, [], _∷_}
-use Prim.Native.Nat.{ℕ, suc, _/_, _%_, _^_}
+use Prim.Native.Nat.{ℕ, suc, _+_, _/_, _%_, _^_}
 use lib.Bits.{bitOr}
-use lib.Dec.{eqb}
+use lib.Dec.{eqb, ltb}
 use lib.ListN.{getD, take}
 use Rattle.sedona_expr.specs.declared.names.NameSearch.{NameSearch}
 
@@ -23,6 +23,10 @@ further s = record { hit = s .hit; place = suc (s .place); compared = suc (s .co
 unfoldable pub findName : List ℕ → ℕ → NameSearch
 findName [] n = noName
 findName (m ∷ ms) n = cond (eqb m n) hitAtOnce (further (findName ms n))
+
+-- "The hit's place counted from 1, or all of them where there is none": of so many names, the first hit at a place, or none where it is their number.
+abbrev pub firstAt : ℕ → ℕ → NameSearch
+firstAt p l = record { hit = ltb p l; place = p; compared = cond (ltb p l) (p + 1) l }
 
 -- ---- a name twice, looked for by a search before each name
 abbrev pub comesBefore : List ℕ → ℕ → Bool
