@@ -1,4 +1,5 @@
--- The bits of a word: one that is 0 has none, a mask keeps those that it has, and the mask of the types with z has just these. Assumes nothing.
+-- The bits of a word: one that is 0 has none, one that is set is there and the others stay, a mask keeps those that it has, and the mask of the types with z
+-- has just these. Assumes nothing.
 use mathlib.Core.Path.{_≡_, refl, sym, subst, ap, _∙_}
 use mathlib.Core.Bool.{Bool, true, false, not, _&&_, _||_}
 use Prim.Native.Nat.{ℕ, zero, suc, _*_, _/_, _%_, _^_, _≤_, _<_, min}

@@ -1,10 +1,10 @@
 -- The search for a name among names: whether there is a hit, where, and how many names were compared. And what tells whether one comes twice.
 use mathlib.Core.Bool.{Bool, true, false, cond}
 use mathlib.Core.List.{List, [], _∷_}
-use Prim.Native.Nat.{ℕ, suc, _+_, _/_, _%_, _^_}
-use lib.Bits.{bitOr}
+use Prim.Native.Nat.{ℕ, suc, _+_, _^_}
 use lib.Dec.{eqb, ltb}
 use lib.ListN.{getD, take}
+use Rattle.sedona_geometry.specs.Types as types
 use Rattle.sedona_expr.specs.declared.names.NameSearch.{NameSearch}
 
 -- "End at the first hit": one name was compared.
@@ -32,9 +32,9 @@ firstAt p l = record { hit = ltb p l; place = p; compared = cond (ltb p l) (p + 
 abbrev pub comesBefore : List ℕ → ℕ → Bool
 comesBefore ns i = findName (take i ns) (getD ns i 0) .hit
 
--- Marks, each a bit of a word.
+-- Marks, each a bit of a word, which is read as a type set's.
 abbrev pub hasBit : ℕ → ℕ → Bool
-hasBit w b = eqb (w / 2 ^ b % 2) 1
+hasBit w b = types.has (types.fromBits w) b
 
 abbrev pub withBit : ℕ → ℕ → ℕ
-withBit w b = bitOr w (2 ^ b)
+withBit w b = types.merge (types.fromBits w) (types.fromBits (2 ^ b)) .types
