@@ -1,0 +1,102 @@
+-- Reading what was written gives it back: numbers, coordinates, and parts behind a count. Assumes nothing.
+use mathlib.Core.Path.{_≡_, refl, ap, _∙_}
+use mathlib.Core.Bool.{Bool, true, false}
+use mathlib.Core.List.{List, [], _∷_, _++_, append-assoc}
+use mathlib.Core.Option.{Option, none, some}
+use Prim.Native.Nat.{ℕ, zero, suc, _+_, _^_, _<_, _≤_}
+use native.Mathlib.Omega.{arith}
+use lib.Dec.{T}
+use lib.Ieee.{Float, binary64, toBits, fits}
+use lib.Ieee.Bits.{ofBits-toBits, toBits-lt}
+use lib.ListN.{length, length-append}
+use lib.Seq.{take-at, drop-at}
+use borrow.Author.Tests.{le-ltb}
+use Rattle.sedona_wkb.specs.Geometry.{concat, DoubleWhere, OfDims, All, encodeNumber, encodeDouble, encodeWhere, encodeCoordinate, encodeFrom, encodeCounted}
+use Rattle.sedona_wkb.specs.Reading.{Reader, found, andThen, number, repeat}
+use Rattle.sedona_wkb.specs.Wkb.{Coordinate, hasZ, hasM, readDouble, readWhere, readCoordinate, counted, readPoint}
+use Rattle.sedona_wkb.specs.declared.heads.Head.{Head}
+use Rattle.sedona_wkb.proofs.Bytes.{length-ordered, value-ordered}
+
+-- ---- numbers and doubles
+
+module _ (low : Bool) where
+  pub length-number : (n v : ℕ) → length (encodeNumber low n v) ≡ n
+  unfolding encodeNumber
+  length-number n v = length-ordered low n v
+
+  pub number-back : (n v : ℕ) (rest : List ℕ) → v < 256 ^ n → number low n (encodeNumber low n v ++ rest) ≡ found v rest
+  unfolding number encodeNumber
+  number-back n v rest h =
+      let bs = encodeNumber low n v in
+      let e : length bs ≡ n = length-number n v in
+      let g : n ≤ length (bs ++ rest) = omega (arith, length-append bs rest) in
+      rw (le-ltb (length (bs ++ rest)) n g, take-at bs rest n e, drop-at bs rest n e, value-ordered low n v h)
+
+  double-back : (v : Float) (rest : List ℕ) → T (fits binary64 v) → readDouble low (encodeDouble low v ++ rest) ≡ found v rest
+  unfolding readDouble encodeDouble andThen
+  double-back v rest h = rw (number-back 8 (toBits binary64 v) rest (toBits-lt binary64 v h), ofBits-toBits binary64 v h)
+
+  where-back : (has : Bool) (o : Option Float) (rest : List ℕ) → DoubleWhere has o → readWhere has low (encodeWhere low o ++ rest) ≡ found o rest
+  unfolding readWhere encodeWhere andThen
+  where-back true none rest h = absurd h
+  where-back true (some v) rest h = rw (double-back v rest h)
+  where-back false none rest h = refl
+  where-back false (some v) rest h = absurd h
+
+  pub length-double : (v : Float) → length (encodeDouble low v) ≡ 8
+  unfolding encodeDouble
+  length-double v = length-number 8 (toBits binary64 v)
+
+module _ (h : Head) (c : Coordinate) (rest : List ℕ) (d : OfDims (h .dims) c) where
+  coordinate-back : readCoordinate h (encodeCoordinate (h .low) c ++ rest) ≡ found c rest
+  unfolding readCoordinate encodeCoordinate andThen
+  coordinate-back =
+      let low = h .low in
+      let m = encodeWhere low (c .m) ++ rest in
+      let z = encodeWhere low (c .z) ++ m in
+      let y = encodeDouble low (c .y) ++ z in
+      simp append-assoc (rw (double-back low (c .x) y (d .x), double-back low (c .y) z (d .y), where-back low (hasZ (h .dims)) (c .z) m (d .z), where-back low (hasM (h .dims)) (c .m) rest (d .m)))
+
+  pub point-back : readPoint h (encodeCoordinate (h .low) c ++ rest) ≡ found (c ∷ []) rest
+  unfolding readPoint andThen
+  point-back = rw coordinate-back
+
+-- ---- parts
+
+pub all-front : {A : Type 0} (P : A → Type 0) (xs ys : List A) → All P (xs ++ ys) → All P xs
+all-front P [] ys h = tt
+all-front P (x ∷ xs) ys h = (h .0, all-front P xs ys (h .1))
+
+pub all-behind : {A : Type 0} (P : A → Type 0) (xs ys : List A) → All P (xs ++ ys) → All P ys
+all-behind P [] ys h = h
+all-behind P (x ∷ xs) ys h = all-behind P xs ys (h .1)
+
+-- In the dimensions d, p gives back what f writes of part k, within 64 KiB: the coordinates that g names.
+abbrev pub Back : {A : Type 0} → ℕ → Reader (List Coordinate) → (ℕ → A → List ℕ) → (A → List Coordinate) → Type 0
+Back {A} d p f g = (k : ℕ) (x : A) → All (OfDims d) (g x) → length (f k x) ≤ 65536 → (rest : List ℕ) → p (f k x ++ rest) ≡ found (g x) rest
+
+module _ {A : Type 0} (d : ℕ) (p : Reader (List Coordinate)) (f : ℕ → A → List ℕ) (g : A → List Coordinate) (b : Back d p f g) where
+  repeat-back : (k : ℕ) (xs : List A) → All (OfDims d) (concat g xs) → length (encodeFrom f k xs) ≤ 65536 → (rest : List ℕ) → repeat (length xs) p (encodeFrom f k xs ++ rest) ≡ found (concat g xs) rest
+  unfolding repeat encodeFrom concat andThen
+  repeat-back k [] h n rest = refl
+  repeat-back k (x ∷ xs) h n rest =
+      let m : length (f k x) + length (encodeFrom f (suc k) xs) ≤ 65536 = rw (length-append (f k x) (encodeFrom f (suc k) xs)) at n in
+      rw (
+        append-assoc (f k x) (encodeFrom f (suc k) xs) rest,
+        b k x (all-front (OfDims d) (g x) (concat g xs) h) (omega arith) (encodeFrom f (suc k) xs ++ rest),
+        repeat-back (suc k) xs (all-behind (OfDims d) (g x) (concat g xs) h) (omega arith) rest,
+      )
+
+  -- Parts that are not empty are no more than their bytes.
+  count-below : ((k : ℕ) (x : A) → 0 < length (f k x)) → (k : ℕ) (xs : List A) → length xs ≤ length (encodeFrom f k xs)
+  unfolding encodeFrom
+  count-below filled k [] = omega arith
+  count-below filled k (x ∷ xs) = rw (length-append (f k x) (encodeFrom f (suc k) xs)) (omega (arith, filled k x, count-below filled (suc k) xs))
+
+  pub counted-back : ((k : ℕ) (x : A) → 0 < length (f k x)) → (h : Head) → Back d (counted h p) (λ k. encodeCounted (h .low) f) (concat g)
+  unfolding counted encodeCounted andThen
+  counted-back filled h k xs c n rest =
+      let count = encodeNumber (h .low) 4 (length xs) in
+      let m : length count + length (encodeFrom f 0 xs) ≤ 65536 = rw (length-append count (encodeFrom f 0 xs)) at n in
+      rw (append-assoc count (encodeFrom f 0 xs) rest, number-back (h .low) 4 (length xs) (encodeFrom f 0 xs ++ rest) (omega (arith, count-below filled 0 xs)))
+      (repeat-back 0 xs c (omega arith) rest)

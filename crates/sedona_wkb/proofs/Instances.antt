@@ -1,0 +1,105 @@
+-- Geometries that meet every hypothesis of the theorems, and bytes. Assumes nothing.
+use mathlib.Core.Path.{_≡_, refl}
+use mathlib.Core.Bool.{true, false, not}
+use mathlib.Core.List.{List, [], _∷_}
+use mathlib.Core.Option.{none, some}
+use Prim.Native.Nat.{ℕ, _≤_}
+use native.Mathlib.Omega.{arith}
+use lib.Dec.{T}
+use lib.Ieee.{Float, fin, binary64, fits, ofBits, ofFields, odd}
+use lib.IntN.{pos}
+use lib.ListN.{length}
+use Rattle.sedona_wkb.specs.Bounds.{wkbBounds, boxFrom, AcceptsCoordinate}
+use Rattle.sedona_wkb.specs.Geometry.{point, lineString, polygon, Geometry, one, many, collection, nil, cons, concat, coordinatesOf, coordinates, depth, count, kindOfShape, kindOf, OfDims, All, Orders, encodeNumber, encodeDouble, encodeWhere, encodeCoordinate, encodeFrom, encodeCounted, encodeContent, encodeHead, encodeOne, encode, Writable}
+use Rattle.sedona_wkb.specs.Numbers.{valueOf, bytesOf, ordered}
+use Rattle.sedona_wkb.specs.Reading.{found, andThen, number}
+use Rattle.sedona_wkb.specs.Wkb.{Coordinate, isType, tested, readHead, readDouble, readWhere, readCoordinate, readPoint, readOne, byKind, readBody, ended, readRest, spelled}
+use Rattle.sedona_wkb.proofs.ThereAndBack.{asSpelled, there-and-back, either-order, accepts-every-written}
+
+-- An odd number, as a double is written.
+abbrev num : ℕ → Float
+num n = fin false n (pos 0)
+
+-- Each part has the other byte order than its parent; all have the low byte first; all have the high byte first.
+unfoldable pub alternating : Orders
+alternating [] = true
+alternating (k ∷ place) = not (alternating place)
+
+abbrev lowFirst : Orders
+lowFirst place = true
+
+abbrev highFirst : Orders
+highFirst place = false
+
+-- ---- a collection with mixed byte orders: a Point, a MultiPoint of two, and a collection of a LineString
+
+abbrev xy : ℕ → ℕ → Coordinate
+xy x y = record { x = num x; y = num y; z = none; m = none }
+
+of-xy : (x y : ℕ) → T (fits binary64 (num x)) → T (fits binary64 (num y)) → OfDims 0 (xy x y)
+of-xy x y p q = record { x = p; y = q; z = tt; m = tt }
+
+abbrev mixed : Geometry
+mixed =
+    collection
+    (cons (one point (xy 1 3))
+    (cons (many point (xy 5 7 ∷ xy 9 11 ∷ []))
+    (cons (collection (cons (one lineString (xy 13 15 ∷ xy 17 19 ∷ [])) nil)) nil)))
+
+mixed-writable : (orders : Orders) → length (encode orders 0 mixed) ≤ 65536 → Writable orders 0 mixed
+unfolding coordinates coordinatesOf concat fits depth
+mixed-writable orders n =
+    record {
+      dims = omega arith;
+      coordinates = (of-xy 1 3 tt tt, (of-xy 5 7 tt tt, (of-xy 9 11 tt tt, (of-xy 13 15 tt tt, (of-xy 17 19 tt tt, tt)))));
+      length = n;
+      depth = omega arith;
+    }
+
+mixed-alternating : Writable alternating 0 mixed
+unfolding alternating encode encodeOne encodeHead encodeNumber ordered bytesOf encodeContent encodeCoordinate encodeDouble encodeWhere encodeCounted encodeFrom
+mixed-alternating = mixed-writable alternating (omega arith)
+
+mixed-low-first : Writable lowFirst 0 mixed
+unfolding encode encodeOne encodeHead encodeNumber ordered bytesOf encodeContent encodeCoordinate encodeDouble encodeWhere encodeCounted encodeFrom
+mixed-low-first = mixed-writable lowFirst (omega arith)
+
+pub mixed-read : spelled (encode alternating 0 mixed) ≡ found (asSpelled 0 mixed) []
+mixed-read = there-and-back alternating 0 mixed mixed-alternating
+
+pub mixed-in-either-order : wkbBounds (encode alternating 0 mixed) ≡ wkbBounds (encode lowFirst 0 mixed)
+mixed-in-either-order = either-order alternating lowFirst 0 mixed mixed-alternating mixed-low-first
+
+pub mixed-accepted : All (AcceptsCoordinate (boxFrom (encode alternating 0 mixed))) (coordinates mixed)
+mixed-accepted = accepts-every-written alternating 0 mixed mixed-alternating
+
+-- ---- a MultiPolygon ZM, high byte first, of a polygon with two rings
+
+abbrev xyzm : ℕ → ℕ → ℕ → ℕ → Coordinate
+xyzm x y z m = record { x = num x; y = num y; z = some (num z); m = some (num m) }
+
+abbrev polygons : Geometry
+polygons = many polygon (((xyzm 1 3 5 7 ∷ xyzm 9 11 13 15 ∷ []) ∷ (xyzm 17 19 21 23 ∷ []) ∷ []) ∷ [])
+
+polygons-high-first : Writable highFirst 3 polygons
+unfolding coordinates coordinatesOf concat fits depth encode encodeOne encodeHead encodeNumber ordered bytesOf encodeContent encodeCoordinate encodeDouble encodeWhere encodeCounted encodeFrom
+polygons-high-first =
+    record {
+      dims = omega arith;
+      coordinates = (record { x = tt; y = tt; z = tt; m = tt }, (record { x = tt; y = tt; z = tt; m = tt }, (record { x = tt; y = tt; z = tt; m = tt }, tt)));
+      length = omega arith;
+      depth = omega arith;
+    }
+
+pub polygons-read : spelled (encode highFirst 3 polygons) ≡ found (asSpelled 3 polygons) []
+polygons-read = there-and-back highFirst 3 polygons polygons-high-first
+
+pub polygons-accepted : All (AcceptsCoordinate (boxFrom (encode highFirst 3 polygons))) (coordinates polygons)
+polygons-accepted = accepts-every-written highFirst 3 polygons polygons-high-first
+
+-- ---- bytes: POINT (1 1), low byte first, computed
+
+pub point-read : spelled (1 ∷ 1 ∷ 0 ∷ 0 ∷ 0 ∷ 0 ∷ 0 ∷ 0 ∷ 0 ∷ 0 ∷ 0 ∷ 240 ∷ 63 ∷ 0 ∷ 0 ∷ 0 ∷ 0 ∷ 0 ∷ 0 ∷ 240 ∷ 63 ∷ [])
+    ≡ found (asSpelled 0 (one point (xy 1 1))) []
+unfolding spelled readHead readRest ended readBody byKind readOne readPoint readCoordinate readDouble readWhere number ordered valueOf andThen tested isType ofBits ofFields odd coordinates coordinatesOf kindOf kindOfShape
+point-read = refl

@@ -1,0 +1,9 @@
+mod Bytes
+mod Short
+mod Readers
+mod Only
+mod Answers
+mod Covering
+mod Back
+mod ThereAndBack
+mod Instances

@@ -1,0 +1,217 @@
+-- There and back: reading what `encode` writes gives the geometry's coordinates and type, whatever the byte orders. Assumes nothing.
+use mathlib.Core.Path.{_≡_, refl, sym, ap, _∙_}
+use mathlib.Core.Bool.{Bool, true, false}
+use mathlib.Core.List.{List, [], _∷_, _++_, append-assoc, append-nil}
+use Prim.Native.Nat.{ℕ, suc, _+_, _*_, _%_, _/_, _-_, _<_, _≤_}
+use native.Mathlib.Nat.{le-max-left, le-max-right}
+use native.Mathlib.Omega.{arith}
+use lib.Dec.{eqb}
+use lib.ListN.{length, length-append}
+use borrow.Author.Tests.{eq-eqb, lt-ltb, le-leb}
+use Rattle.sedona_wkb.specs.Bounds.{answer, wkbBounds, boxFrom, AcceptsCoordinate}
+use Rattle.sedona_wkb.specs.Geometry.{Shape, point, lineString, polygon, Content, Geometry, one, many, collection, Geometries, nil, cons, kindOfShape, kindOf, concat, coordinatesOf, coordinates, allCoordinates, depth, deepest, count, OfDims, All, Orders, inPart, encodeNumber, encodeDouble, encodeCoordinate, encodeCounted, encodeLine, encodeContent, encodeHead, encodeOne, encode, encodeAll, Writable}
+use Rattle.sedona_wkb.specs.Reading.{Reader, found, andThen, number, repeat}
+use Rattle.sedona_wkb.specs.Wkb.{Coordinate, headOf, isType, isPart, tested, readHead, readPartHead, counted, readPoint, readLine, readOne, within, readMember, readBody, readPart, Spelled, ended, readRest, spelled}
+use Rattle.sedona_wkb.specs.declared.heads.Head.{Head}
+use Rattle.sedona_wkb.proofs.Answers.{head-found}
+use Rattle.sedona_wkb.proofs.Back.{length-number, length-double, number-back, point-back, all-front, all-behind, Back, counted-back}
+use Rattle.sedona_wkb.proofs.Covering.{accepts-every-coordinate}
+use Rattle.sedona_wkb.proofs.Readers.{byte-there, body-one, body-many, body-collection}
+
+-- ---- heads
+
+abbrev headFor : Bool → ℕ → ℕ → Head
+headFor low kind d = record { low = low; kind = kind; dims = d }
+
+byte-back : (b : ℕ) (t : List ℕ) → number true 1 (b ∷ t) ≡ found b t
+byte-back b t = byte-there (b ∷ t) 0 (omega arith)
+
+module _ (kind d : ℕ) (least : 0 < kind) (most : kind ≤ 7) (dims : d < 4) (rest : List ℕ) where
+  code-back : (low : Bool) → tested (isType (headOf low (1000 * d + kind))) (headOf low (1000 * d + kind)) rest ≡ found (headFor low kind d) rest
+  unfolding tested isType
+  code-back low =
+      let q : (1000 * d + kind) % 1000 ≡ kind = omega arith in
+      let r : (1000 * d + kind) / 1000 ≡ d = omega arith in
+      rw (q, r, lt-ltb 0 kind least, le-leb kind 7 most, lt-ltb d 4 dims)
+
+  head-back : (low : Bool) → readHead (encodeHead low kind d ++ rest) ≡ found (headFor low kind d) rest
+  unfolding readHead encodeHead andThen
+  head-back true = rw (byte-back 1 (encodeNumber true 4 (1000 * d + kind) ++ rest), number-back true 4 (1000 * d + kind) rest (omega arith)) (code-back true)
+  head-back false = rw (byte-back 0 (encodeNumber false 4 (1000 * d + kind) ++ rest), number-back false 4 (1000 * d + kind) rest (omega arith)) (code-back false)
+
+  -- Of a part, and what follows it.
+  within-back : (parent : Head) (follows : Head → Reader (List Coordinate)) (low : Bool) → isPart parent (headFor low kind d) ≡ true
+      → within parent follows (encodeHead low kind d ++ rest) ≡ follows (headFor low kind d) rest
+  unfolding within readPartHead andThen tested
+  within-back parent follows low e = rw (head-back low, e)
+
+-- ---- points, lines, polygons
+
+single : (cs : List Coordinate) → concat (λ c. c ∷ []) cs ≡ cs
+unfolding concat
+single [] = refl
+single (c ∷ cs) = ap {B = List Coordinate} (λ r. c ∷ r) (single cs)
+
+filled-coordinate : (low : Bool) (c : Coordinate) → 0 < length (encodeCoordinate low c)
+unfolding encodeCoordinate
+filled-coordinate low c = simp (length-append, length-double) (omega arith)
+
+filled-line : (low : Bool) (cs : List Coordinate) → 0 < length (encodeLine low cs)
+unfolding encodeCounted
+filled-line low cs = rw (length-append, length-number) (omega arith)
+
+module _ (h : Head) where
+  points-back : Back (h .dims) (readLine h) (λ k. encodeLine (h .low)) (concat (λ c. c ∷ []))
+  points-back =
+      counted-back (h .dims) (readPoint h) (λ k. encodeCoordinate (h .low)) (λ c. c ∷ []) (λ k c d n rest. point-back h c rest (d .0)) (λ k. filled-coordinate (h .low)) h
+
+  line-back : Back (h .dims) (readLine h) (λ k. encodeLine (h .low)) (λ cs. cs)
+  line-back k cs d n rest = points-back k cs (rw (single cs) d) n rest ∙ ap (λ (xs : List Coordinate). found xs rest) (single cs)
+
+  polygon-back : Back (h .dims) (counted h (readLine h)) (λ k. encodeCounted (h .low) (λ j. encodeLine (h .low))) (concat (λ ring. ring))
+  polygon-back = counted-back (h .dims) (readLine h) (λ k. encodeLine (h .low)) (λ ring. ring) line-back (λ k. filled-line (h .low)) h
+
+content-back : (low : Bool) (d : ℕ) (shape : Shape) → Back d (readOne (headFor low (kindOfShape shape) d)) (λ k. encodeContent low shape) (coordinatesOf shape)
+unfolding readOne kindOfShape encodeContent coordinatesOf
+content-back low d point = λ k c h n rest. point-back (headFor low 1 d) c rest (h .0)
+content-back low d lineString = line-back (headFor low 2 d)
+content-back low d polygon = polygon-back (headFor low 3 d)
+
+-- ---- many
+
+least-kind : (shape : Shape) → 0 < kindOfShape shape
+unfolding kindOfShape
+least-kind point = omega arith
+least-kind lineString = omega arith
+least-kind polygon = omega arith
+
+most-kind : (shape : Shape) → kindOfShape shape ≤ 3
+unfolding kindOfShape
+most-kind point = omega arith
+most-kind lineString = omega arith
+most-kind polygon = omega arith
+
+is-member : (low low′ : Bool) (shape : Shape) (d : ℕ) → isPart (headFor low (3 + kindOfShape shape) d) (headFor low′ (kindOfShape shape) d) ≡ true
+unfolding isPart kindOfShape
+is-member low low′ point d = rw (eq-eqb d d refl)
+is-member low low′ lineString d = rw (eq-eqb d d refl)
+is-member low low′ polygon d = rw (eq-eqb d d refl)
+
+module _ (orders : Orders) (d : ℕ) (dims : d < 4) (shape : Shape) where
+  member-back : Back d (readMember (headFor (orders []) (3 + kindOfShape shape) d)) (λ k. encodeOne (orders (k ∷ [])) d shape) (coordinatesOf shape)
+  unfolding encodeOne
+  member-back k c h n rest =
+      let low = orders (k ∷ []) in
+      let front = encodeHead low (kindOfShape shape) d in
+      let behind = encodeContent low shape c in
+      let m : length front + length behind ≤ 65536 = rw (length-append front behind) at n in
+      rw (append-assoc front behind rest)
+      (within-back (kindOfShape shape) d (least-kind shape) (omega (arith, most-kind shape)) dims (behind ++ rest) _ readOne low (is-member (orders []) low shape d)
+      ∙ content-back low d shape k c h (omega arith) rest)
+
+  filled-member : (k : ℕ) (c : Content shape) → 0 < length (encodeOne (orders (k ∷ [])) d shape c)
+  unfolding encodeOne encodeHead
+  filled-member k c = rw (length-append) (omega arith)
+
+  many-back : Back d (counted (headFor (orders []) (3 + kindOfShape shape) d) (readMember (headFor (orders []) (3 + kindOfShape shape) d))) (λ j. encodeCounted (orders []) (λ k. encodeOne (orders (k ∷ [])) d shape)) (concat (coordinatesOf shape))
+  many-back = counted-back d _ (λ k. encodeOne (orders (k ∷ [])) d shape) (coordinatesOf shape) member-back filled-member (headFor (orders []) (3 + kindOfShape shape) d)
+
+-- ---- geometries
+
+-- What follows the head.
+unfoldable bodyBytes : Orders → ℕ → Geometry → List ℕ
+bodyBytes orders d (one shape c) = encodeContent (orders []) shape c
+bodyBytes orders d (many shape cs) = encodeCounted (orders []) (λ k. encodeOne (orders (k ∷ [])) d shape) cs
+bodyBytes orders d (collection gs) = encodeNumber (orders []) 4 (count gs) ++ encodeAll orders d 0 gs
+
+encode-is : (orders : Orders) (d : ℕ) (g : Geometry) → encode orders d g ≡ encodeHead (orders []) (kindOf g) d ++ bodyBytes orders d g
+unfolding encode encodeOne bodyBytes kindOf
+encode-is orders d (one shape c) = refl
+encode-is orders d (many shape cs) = refl
+encode-is orders d (collection gs) = refl
+
+length-encode : (orders : Orders) (d : ℕ) (g : Geometry) → length (encode orders d g) ≡ 5 + length (bodyBytes orders d g)
+unfolding encodeHead
+length-encode orders d g = rw (encode-is orders d g) (simp (length-append, length-number) (omega arith))
+
+least-kind-of : (g : Geometry) → 0 < kindOf g
+unfolding kindOf
+least-kind-of (one shape c) = least-kind shape
+least-kind-of (many shape cs) = omega arith
+least-kind-of (collection gs) = omega arith
+
+most-kind-of : (g : Geometry) → kindOf g ≤ 7
+unfolding kindOf
+most-kind-of (one shape c) = omega (arith, most-kind shape)
+most-kind-of (many shape cs) = omega (arith, most-kind shape)
+most-kind-of (collection gs) = omega arith
+
+count-all : (orders : Orders) (d k : ℕ) (gs : Geometries) → count gs ≤ length (encodeAll orders d k gs)
+unfolding count encodeAll
+count-all orders d k nil = omega arith
+count-all orders d k (cons g gs) =
+    rw (length-append (encode (inPart orders k) d g) (encodeAll orders d (suc k) gs)) (omega (arith, length-encode (inPart orders k) d g, count-all orders d (suc k) gs))
+
+in-collection : (low : Bool) (d : ℕ) (h : Head) → h .dims ≡ d → isPart (headFor low 7 d) h ≡ true
+unfolding isPart
+in-collection low d h e = rw (eq-eqb (h .dims) d e)
+
+part-is-body : (orders : Orders) (d : ℕ) (g : Geometry) → d < 4 → (low : Bool) (room : ℕ) (rest : List ℕ)
+    → readPart room (headFor low 7 d) (encode orders d g ++ rest) ≡ readBody room (headFor (orders []) (kindOf g) d) (bodyBytes orders d g ++ rest)
+part-is-body orders d g lt low room rest =
+    rw (encode-is orders d g, append-assoc (encodeHead (orders []) (kindOf g) d) (bodyBytes orders d g) rest)
+    (within-back (kindOf g) d (least-kind-of g) (most-kind-of g) lt (bodyBytes orders d g ++ rest) (headFor low 7 d) (readBody room) (orders []) (in-collection low d _ refl))
+
+module _ (d : ℕ) (lt : d < 4) where
+  mutual
+    unfolding bodyBytes kindOf coordinates depth count encodeAll repeat counted andThen
+
+    body-back : (orders : Orders) (g : Geometry) → All (OfDims d) (coordinates g) → length (bodyBytes orders d g) ≤ 65536 → (room : ℕ) → depth g ≤ room → (rest : List ℕ)
+        → readBody room (headFor (orders []) (kindOf g) d) (bodyBytes orders d g ++ rest) ≡ found (coordinates g) rest
+    body-back orders (one shape c) h n room r rest =
+        body-one (headFor (orders []) (kindOfShape shape) d) _ room (most-kind shape) ∙ content-back (orders []) d shape 0 c h n rest
+    body-back orders (many shape cs) h n room r rest =
+        body-many (headFor (orders []) (3 + kindOfShape shape) d) _ (omega (arith, least-kind shape)) room (omega (arith, most-kind shape)) ∙ many-back orders d lt shape 0 cs h n rest
+    body-back orders (collection gs) h n room r rest =
+        let front = encodeNumber (orders []) 4 (count gs) in
+        let m : length front + length (encodeAll orders d 0 gs) ≤ 65536 = rw (length-append front (encodeAll orders d 0 gs)) at n in
+        body-collection (headFor (orders []) 7 d) _ (omega arith) room (omega arith) (omega arith)
+        ∙ rw (append-assoc front (encodeAll orders d 0 gs) rest, number-back (orders []) 4 (count gs) (encodeAll orders d 0 gs ++ rest) (omega (arith, count-all orders d 0 gs)))
+        (parts-back orders 0 gs h (omega arith) (orders []) (room - 1) (omega arith) rest)
+
+    parts-back : (orders : Orders) (k : ℕ) (gs : Geometries) → All (OfDims d) (allCoordinates gs) → length (encodeAll orders d k gs) ≤ 65536 → (low : Bool) (room : ℕ) → deepest gs ≤ room → (rest : List ℕ)
+        → repeat (count gs) (readPart room (headFor low 7 d)) (encodeAll orders d k gs ++ rest) ≡ found (allCoordinates gs) rest
+    parts-back orders k nil h n low room r rest = refl
+    parts-back orders k (cons g gs) h n low room r rest =
+        let front = encode (inPart orders k) d g in
+        let behind = encodeAll orders d (suc k) gs in
+        let m : length front + length behind ≤ 65536 = rw (length-append front behind) at n in
+        let first = body-back (inPart orders k) g (all-front (OfDims d) (coordinates g) (allCoordinates gs) h) (omega (arith, length-encode (inPart orders k) d g)) room (omega (arith, le-max-left (depth g) (deepest gs))) (behind ++ rest) in
+        let others = parts-back orders (suc k) gs (all-behind (OfDims d) (coordinates g) (allCoordinates gs) h) (omega arith) low room (omega (arith, le-max-right (depth g) (deepest gs))) rest in
+        rw (append-assoc front behind rest, part-is-body (inPart orders k) d g lt low room (behind ++ rest), first, others)
+
+-- ---- the theorems
+
+-- What a geometry is as something spelled: its type and its coordinates. No byte order is in it.
+abbrev pub asSpelled : ℕ → Geometry → Spelled
+asSpelled d g = record { kind = kindOf g; dims = d; coordinates = coordinates g }
+
+-- Reading what `encode` writes gives the geometry's coordinates and type, whatever the byte orders.
+pub there-and-back : (orders : Orders) (d : ℕ) (g : Geometry) → Writable orders d g → spelled (encode orders d g) ≡ found (asSpelled d g) []
+unfolding readRest andThen ended
+there-and-back orders d g w =
+    let h = headFor (orders []) (kindOf g) d in
+    let b : readBody 32 h (bodyBytes orders d g) ≡ found (coordinates g) []
+    = rw (append-nil (bodyBytes orders d g)) at (body-back d (w .dims) orders g (w .coordinates) (omega (arith, w .length, length-encode orders d g)) 32 (w .depth) []) in
+    head-found (encode orders d g) (w .length) h (bodyBytes orders d g)
+    (rw (encode-is orders d g) (head-back (kindOf g) d (least-kind-of g) (most-kind-of g) (w .dims) (bodyBytes orders d g) (orders [])))
+    ∙ rw b
+
+-- "One geometry written in either byte order gives one box", and one type: in any two choices of a byte order for each part.
+pub either-order : (orders orders′ : Orders) (d : ℕ) (g : Geometry) → Writable orders d g → Writable orders′ d g
+    → wkbBounds (encode orders d g) ≡ wkbBounds (encode orders′ d g)
+either-order orders orders′ d g w w′ = ap answer (there-and-back orders d g w ∙ sym (there-and-back orders′ d g w′))
+
+-- The box of what is written accepts every coordinate of the geometry that is not NaN.
+pub accepts-every-written : (orders : Orders) (d : ℕ) (g : Geometry) → Writable orders d g → All (AcceptsCoordinate (boxFrom (encode orders d g))) (coordinates g)
+accepts-every-written orders d g w = accepts-every-coordinate (encode orders d g) (asSpelled d g) [] (there-and-back orders d g w)

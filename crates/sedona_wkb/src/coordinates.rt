@@ -1,0 +1,149 @@
+// Coordinates, and what has no heads inside it: points, lines of points, and polygons of lines.
+ghost use mathlib.Core.Path.{_≡_};
+ghost use Prim.Native.Nat.{_+_, _≤_};
+ghost use lib.ListN.{length, drop};
+ghost use Rattle.sedona_wkb.specs.Extents as extents;
+ghost use Rattle.sedona_wkb.specs.Outcome as outcome;
+ghost use Rattle.sedona_wkb.specs.Wkb as wkb;
+use crate::error::WKB_LENGTH;
+use crate::heads::Head;
+use crate::heads::LINE_STRING;
+use crate::heads::POINT;
+use crate::numbers::double_at;
+use crate::numbers::is_short;
+use crate::numbers::word_at;
+use sedona_geometry::interval::Interval;
+
+// The coordinates read so far, as intervals.
+pub struct Extents {
+    pub x: Interval,
+    pub y: Interval,
+    pub z: Interval,
+    pub m: Interval,
+}
+
+// The extents with what was read, and where that ends; or the number that refuses it.
+pub enum Reached {
+    At(Extents, usize),
+    Refused(u32),
+}
+
+pub(crate) fn has_z(dims: u32) -> bool
+    ensures { λ r. ⌜ r ≡ wkb.hasZ dims ⌝ }
+{
+    dims % 2 == 1
+}
+
+pub(crate) fn has_m(dims: u32) -> bool
+    ensures { λ r. ⌜ r ≡ wkb.hasM dims ⌝ }
+{
+    1 < dims
+}
+
+// How many bytes a z or an m has.
+fn width_where(has: bool) -> usize
+    ensures { λ r. ⌜ (r ≡ wkb.widthWhere has) × (r ≤ 8) ⌝ }
+{
+    if has { 8 } else { 0 }
+}
+
+// How many bytes a coordinate has.
+fn width(dims: u32) -> usize
+    ensures { λ r. ⌜ r ≡ wkb.width dims ⌝ }
+{
+    8 + (8 + (width_where(has_z(dims)) + width_where(has_m(dims))))
+}
+
+// The interval with the z or the m at a place, where there is one.
+fn merge_where(has: bool, bytes: &[u8], at: usize, low: bool, i: Interval) -> Interval
+    requires { ⌜ at + wkb.widthWhere has ≤ length (now bytes) ⌝ }
+    ensures { λ r. ⌜ r ≡ extents.mergeWhere i (wkb.doubleWhere has low (now (bytes .entry)) at) ⌝ }
+{
+    if has {
+        return i.merge_value(double_at(bytes, at, low));
+    }
+    i
+}
+
+// The extents with the coordinate at a place.
+fn enter(bytes: &[u8], at: usize, head: Head, e: Extents) -> Extents
+    requires { ⌜ at + wkb.width (head .dims) ≤ length (now bytes) ⌝ }
+    ensures { λ r. ⌜ r ≡ extents.enter e (wkb.coordinateAt head (now (bytes .entry)) at) ⌝ }
+{
+    let with_z = has_z(head.dims);
+    let at_y = at + 8;
+    let at_z = at_y + 8;
+    let at_m = at_z + width_where(with_z);
+    let x = e.x.merge_value(double_at(bytes, at, head.low));
+    let y = e.y.merge_value(double_at(bytes, at_y, head.low));
+    let z = merge_where(with_z, bytes, at_z, head.low, e.z);
+    let m = merge_where(has_m(head.dims), bytes, at_m, head.low, e.m);
+    Extents { x, y, z, m }
+}
+
+fn read_point(bytes: &[u8], at: usize, head: Head, e: Extents) -> Reached
+    ensures { λ r. ⌜ outcome.entered e (wkb.readPoint head (drop at (now (bytes .entry)))) ≡ outcome.reached (now (bytes .entry)) r ⌝ }
+{
+    let width = width(head.dims);
+    if is_short(bytes, at, width) {
+        return Reached::Refused(WKB_LENGTH);
+    }
+    Reached::At(enter(bytes, at, head, e), at + width)
+}
+
+// A count, and points.
+fn read_line(bytes: &[u8], at: usize, head: Head, e: Extents) -> Reached
+    ensures { λ r. ⌜ outcome.entered e (wkb.readLine head (drop at (now (bytes .entry)))) ≡ outcome.reached (now (bytes .entry)) r ⌝ }
+{
+    if is_short(bytes, at, 4) {
+        return Reached::Refused(WKB_LENGTH);
+    }
+    let mut left = word_at(bytes, at, head.low);
+    let mut end = at + 4;
+    let mut entered = e;
+    while 0 < left {
+        let reached = read_point(bytes, end, head, entered);
+        let Reached::At(more, next) = reached else {
+            return reached;
+        };
+        end = next;
+        entered = more;
+        left -= 1;
+    }
+    Reached::At(entered, end)
+}
+
+// A count, and lines: the rings.
+fn read_polygon(bytes: &[u8], at: usize, head: Head, e: Extents) -> Reached
+    ensures { λ r. ⌜ outcome.entered e (wkb.readPolygon head (drop at (now (bytes .entry)))) ≡ outcome.reached (now (bytes .entry)) r ⌝ }
+{
+    if is_short(bytes, at, 4) {
+        return Reached::Refused(WKB_LENGTH);
+    }
+    let mut left = word_at(bytes, at, head.low);
+    let mut end = at + 4;
+    let mut entered = e;
+    while 0 < left {
+        let reached = read_line(bytes, end, head, entered);
+        let Reached::At(more, next) = reached else {
+            return reached;
+        };
+        end = next;
+        entered = more;
+        left -= 1;
+    }
+    Reached::At(entered, end)
+}
+
+// What follows a head of a kind of one.
+pub(crate) fn read_one(bytes: &[u8], at: usize, head: Head, e: Extents) -> Reached
+    ensures { λ r. ⌜ outcome.entered e (wkb.readOne head (drop at (now (bytes .entry)))) ≡ outcome.reached (now (bytes .entry)) r ⌝ }
+{
+    if head.kind == POINT {
+        return read_point(bytes, at, head, e);
+    }
+    if head.kind == LINE_STRING {
+        return read_line(bytes, at, head, e);
+    }
+    read_polygon(bytes, at, head, e)
+}
