@@ -4,6 +4,13 @@
 use crate::layout::{Columns, Ends, Filter, Record, Records};
 use johikape::raw;
 
+/// The box of a geometry, and its type set.
+pub fn box_from_wkb(bytes: &[u8]) -> (u32, Ends, u32) {
+    let (mut out, mut types) = (Ends::default(), 0);
+    let number = raw::box_from_wkb(bytes, &mut out.doubles, &mut out.flags, &mut types);
+    (number, out, types)
+}
+
 pub fn fold(records: &Records) -> (u32, Record) {
     let mut out = Record::default();
     let number = raw::fold(

@@ -14,6 +14,7 @@ mod library;
 mod names;
 mod records;
 mod timing;
+mod wkb;
 
 fn main() {
     let bench = timing::Bench::from_environment();
@@ -22,4 +23,5 @@ fn main() {
     names::rows(&bench);
     records::rows(&bench);
     boxes::rows(&bench);
+    wkb::rows(&bench);
 }

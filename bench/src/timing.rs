@@ -22,7 +22,7 @@ pub struct Bench {
 pub struct Row<'a, I> {
     pub name: String,
     pub inputs: &'a [I],
-    /// What a call's time is divided by: 1, or how many records it goes through.
+    /// What a call's time is divided by: 1, or how many records or coordinates it goes through.
     pub parts: usize,
 }
 

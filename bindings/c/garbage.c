@@ -10,12 +10,17 @@
 #include <stdlib.h>
 #include <string.h>
 
-enum { MOST_ROOMS = 64, MOST_NODES = 1026, NUMBERS = 15 };
+enum { MOST_ROOMS = 64, MOST_NODES = 1026, MOST_BYTES = 65536, NUMBERS = 18 };
+
+/* Types of geometries in well-known binary. */
+enum { POINT = 1, LINE_STRING = 2, POLYGON = 3, COLLECTION = 7 };
 
 static uint64_t state = 1;
 static void *rooms[MOST_ROOMS];
 static size_t rooms_count;
 static unsigned long counts[NUMBERS];
+static uint8_t written[MOST_BYTES + 100];
+static size_t written_count;
 
 /* The next 64 bits (splitmix64). */
 static uint64_t bits(void) {
@@ -138,6 +143,69 @@ static uint32_t *filter(size_t count) {
     return list;
 }
 
+/* The bytes of a number. Those for which there is no place are left out. */
+static void put(uint64_t value, size_t size, bool low_first) {
+    for (size_t i = 0; i < size && written_count < sizeof written; i++)
+        written[written_count++] = (uint8_t)(value >> 8 * (low_first ? i : size - 1 - i));
+}
+
+static void put_numbers(size_t count, bool low_first) {
+    for (size_t i = 0; i < count; i++) {
+        const double value = number();
+        uint64_t its_bits;
+        memcpy(&its_bits, &value, sizeof value);
+        put(its_bits, sizeof value, low_first);
+    }
+}
+
+/* A count: mostly small, now and then some thousands, about as many as the bytes may hold. */
+static size_t put_count(bool low_first) {
+    const size_t count = below(below(2000) ? 4 : 8000);
+    put(count, 4, low_first);
+    return count;
+}
+
+/* A byte order, which is answered, and a type code. */
+static bool put_head(uint32_t code) {
+    const bool low_first = below(2);
+    put(low_first, 1, low_first);
+    put(code, 4, low_first);
+    return low_first;
+}
+
+/* A geometry of a type; thousands are 1 with z, 2 with m, 3 with both. */
+static void put_geometry(uint32_t type, uint32_t thousands) {
+    const bool low_first = put_head(1000 * thousands + type);
+    const size_t dimensions = 2 + thousands % 2 + thousands / 2;
+    const size_t count = type == POINT ? 1 : put_count(low_first);
+    for (size_t i = 0; i < count; i++)
+        if (type <= LINE_STRING)
+            put_numbers(dimensions, low_first);
+        else if (type == POLYGON)
+            put_numbers(dimensions * put_count(low_first), low_first);
+        else
+            put_geometry(type == COLLECTION ? (uint32_t)below(COLLECTION) + 1 : type - POLYGON, thousands);
+}
+
+/* A geometry, now and then in many collections, and how many bytes it has. */
+static size_t write_geometry(void) {
+    const uint32_t thousands = (uint32_t)below(4);
+    for (size_t collections = below(8) ? 0 : below(40); collections > 0; collections--)
+        put(1, 4, put_head(1000 * thousands + COLLECTION));
+    put_geometry((uint32_t)below(COLLECTION) + 1, thousands);
+    return written_count;
+}
+
+/* What is written, and garbage behind it; with a byte or two of garbage, mostly near the front. */
+static uint8_t *bytes(size_t count) {
+    uint8_t *list = room(count);
+    for (size_t i = 0; i < count; i++)
+        list[i] = i < written_count ? written[i] : (uint8_t)bits();
+    for (size_t faults = below(3); count > 0 && faults > 0; faults--)
+        list[below(below(count) + 1)] = (uint8_t)(below(2) ? below(9) : bits());
+    return list;
+}
+
 static void fail(const char *name, const char *what) {
     fprintf(stderr, "%s: %s\n", name, what);
     exit(1);
@@ -229,6 +297,25 @@ static void layouts(void) {
     leaves("box_from_geoparquet", given, flags_before, out_flags, 1);
 }
 
+static void geometries(void) {
+    written_count = 0;
+    const size_t count = length(below(8) ? write_geometry() : below(100));
+    double *ends = doubles(8);
+    uint8_t *out_flags = flags(1);
+    uint32_t *types = words(1, 128);
+    const void *ends_before = copy(ends, 8 * sizeof *ends), *flags_before = copy(out_flags, 1);
+    const uint32_t types_before = *types;
+    const uint32_t given = johikape_box_from_wkb(bytes(count), count, ends, out_flags, types);
+    gives("box_from_wkb", given, JOHIKAPE_WKB_DEPTH);
+    leaves("box_from_wkb", given, ends_before, ends, 8 * sizeof *ends);
+    leaves("box_from_wkb", given, flags_before, out_flags, 1);
+    leaves("box_from_wkb", given, &types_before, types, sizeof types_before);
+    if (given == JOHIKAPE_OK && (*types == 0 || (*types & (*types - 1)) != 0))
+        fail("box_from_wkb", "a type set that is not one bit");
+    if (given != JOHIKAPE_WKB_LENGTH && count > MOST_BYTES)
+        fail("box_from_wkb", "more bytes than it may read");
+}
+
 static void records(void) {
     double *out = doubles(10);
     int64_t *out_totals = totals(7);
@@ -310,13 +397,14 @@ int main(int count, char **arguments) {
         intervals();
         boxes();
         layouts();
+        geometries();
         records();
         filters();
         searches();
         while (rooms_count > 0)
             free(rooms[--rooms_count]);
     }
-    printf("%lu rounds of garbage to 34 functions; answers and numbers:", rounds);
+    printf("%lu rounds of garbage to 35 functions; answers and numbers:", rounds);
     for (int i = 0; i < NUMBERS; i++)
         if (counts[i] > 0)
             printf(" %d: %lu", i, counts[i]);

@@ -15,7 +15,9 @@
  *
  * A RECORD is ten doubles (the eight of its box, then the summed width and height of envelopes),
  * seven totals (geometries, bytes, points, and the counts of puntal, lineal, polygonal and
- * collection geometries), a set of geometry types as 32 bits, and flags that say what is known.
+ * collection geometries), a set of geometry types as 32 bits, and flags that say what is known. A
+ * type's bit is 1 for a point, 2 a line string, 3 a polygon, 4 to 6 their multiples, 7 a collection;
+ * 8 more with z, 16 more with m, 24 more with both.
  *
  * A FILTER is a list of nodes, four words each; the last is the root. The words are a kind and
  *     JOHIKAPE_INTERSECTS, JOHIKAPE_COVERS    column index, name number, literal number
@@ -51,7 +53,10 @@ enum johikape_number {
     JOHIKAPE_NAME_TWICE = 11,  /* by name: a name number twice among the records */
     JOHIKAPE_BBOX_LENGTH = 12, /* an array of neither four nor six numbers */
     JOHIKAPE_KNOWN_M = 13,     /* a known m, for which an array has no place */
-    JOHIKAPE_BAD_NUMBERS = 14  /* a NaN or an infinity, or a low above its high in y or z */
+    JOHIKAPE_BAD_NUMBERS = 14, /* a NaN or an infinity, or a low above its high in y or z */
+    JOHIKAPE_WKB_LENGTH = 15,  /* bytes too few, left over, or over 65,536 */
+    JOHIKAPE_WKB_CODE = 16,    /* an unknown byte order, or a wrong type code */
+    JOHIKAPE_WKB_DEPTH = 17    /* a collection more than 32 deep */
 };
 
 /* What a test answers, where it is not refused. */
@@ -181,6 +186,19 @@ uint32_t johikape_box_to_geoparquet(const double ends[8], uint8_t flags, double 
  * JOHIKAPE_BBOX_LENGTH or JOHIKAPE_BAD_NUMBERS, and nothing is written. */
 uint32_t johikape_box_from_geoparquet(const double *array, size_t array_count, double ends[8],
                                       uint8_t *flags);
+
+/* ---- a box from well-known binary: OGC 06-103r4 with ISO's type codes, 1 to 7, and 1000 more with z,
+ *      2000 more with m, 3000 more with both; each part in a byte order of its own */
+
+/* The box of a geometry, into ends and flags, and a type set of one bit, the outermost geometry's,
+ * into types. z and m are known where the type has them. NaN is passed over, infinities are not. An x
+ * never wraps around. A dimension without a number is empty, (inf, -inf). 0; or JOHIKAPE_WKB_LENGTH,
+ * JOHIKAPE_WKB_CODE or JOHIKAPE_WKB_DEPTH, by the first fault from the front, and nothing is written;
+ * of more than 65,536 bytes none is read. Wrong are also the type codes of curves, surfaces and TINs,
+ * those with EWKB's flags, and that of a part with other dimensions than its whole, or of a type that
+ * its whole does not take. */
+uint32_t johikape_box_from_wkb(const uint8_t *bytes, size_t bytes_count, double ends[8],
+                               uint8_t *flags, uint32_t *types);
 
 /* ---- intervals: plain ones, as y, z and m are, and x, which may wrap around */
 

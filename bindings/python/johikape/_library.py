@@ -35,6 +35,7 @@ _SIGNATURES = {
     "box_expand_by": (c_uint32, [c_void_p, c_void_p, c_double]),
     "box_to_geoparquet": (c_uint32, _BOX + [c_void_p, c_void_p]),
     "box_from_geoparquet": (c_uint32, _LIST + [c_void_p, c_void_p]),
+    "box_from_wkb": (c_uint32, _LIST + [c_void_p] * 3),
     "interval_intersection": (Ends, [Ends, Ends]),
     "x_wraps": (c_bool, [Ends]),
     "x_intersection": (c_uint32, [Ends, Ends, c_void_p, c_void_p]),

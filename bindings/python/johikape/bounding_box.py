@@ -2,10 +2,11 @@
 
 from __future__ import annotations
 
-from ctypes import byref, c_double, c_size_t, c_uint8
+from ctypes import byref, c_double, c_size_t, c_uint8, c_uint32
 from dataclasses import dataclass
 from typing import Any, Iterable, Optional, Sequence, Tuple, Union
 
+from ._buffers import call, view
 from ._library import library
 from ._values import Value, double
 from .interval import Interval, WraparoundInterval
@@ -118,11 +119,37 @@ class BoundingBox(Value):
         accept(library.johikape_box_from_geoparquet(lent, len(numbers), ends, byref(flags)))
         return box_of(ends, flags.value)
 
-    def _changed(self, call: Any, *arguments: Any) -> BoundingBox:
+    @classmethod
+    def from_wkb(cls, data: Any) -> Tuple[BoundingBox, int]:
+        """The box of a geometry in well-known binary, and a set of the geometry's type alone, as
+        `GeoStatistics` has it: `GeoStatistics(*BoundingBox.from_wkb(data))` knows both. z and m are
+        known where the type has them.
+
+        `data` is a buffer (item type 'B'): bytes, a bytearray, a memoryview. It is read where it
+        lies. Read are points, line strings, polygons, their multiples and collections, with the
+        type codes of ISO and at most 65,536 bytes. NaN is passed over, infinities are not. The x
+        never wraps around. A dimension without a number is empty, as all are of an empty geometry.
+
+        `Refusal` by the first fault from the front: 15 where the bytes are too few or left over,
+        or, whatever they are, over 65,536; 16 where a byte order is unknown or a type code wrong,
+        as are those of curves, surfaces and TINs, with EWKB's flags, and of a part that its whole
+        does not take; 17 where a collection is more than 32 deep.
+
+        >>> from struct import pack
+        >>> low_first, point = 1, 1
+        >>> BoundingBox.from_wkb(pack("<BIdd", low_first, point, 10, 38))
+        (BoundingBox(x=WraparoundInterval(lo=10.0, hi=10.0), y=Interval(lo=38.0, hi=38.0)), 2)
+        """
+        lent = view(data, "B", "data")
+        ends, flags, types = new_ends(), c_uint8(), c_uint32()
+        accept(call(library.johikape_box_from_wkb, lent, ends, byref(flags), byref(types)))
+        return box_of(ends, flags.value), types.value
+
+    def _changed(self, change: Any, *arguments: Any) -> BoundingBox:
         """The box that a call makes of this one, which is lent to it as a copy."""
         ends, flags = self._lend()
         changed = c_uint8(flags)
-        accept(call(ends, byref(changed), *arguments))
+        accept(change(ends, byref(changed), *arguments))
         return box_of(ends, changed.value)
 
     def _lend(self) -> Tuple[Any, int]:

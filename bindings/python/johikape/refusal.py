@@ -18,6 +18,9 @@ _SENTENCES = {
     12: "a bbox array has neither four nor six numbers",
     13: "m is known, and a bbox array has no place for it",
     14: "a number is NaN or infinite, or y or z has its low above its high",
+    15: "bytes of well-known binary are too few, left over, or over 65,536",
+    16: "well-known binary has an unknown byte order or a wrong type code",
+    17: "well-known binary has a collection more than 32 deep",
 }
 
 

@@ -2,8 +2,22 @@
 
 import math
 import unittest
+from array import array
+from struct import pack
 
-from johikape import BoundingBox, Interval, Refusal, WraparoundInterval
+from johikape import BoundingBox, GeoStatistics, Interval, Refusal, WraparoundInterval
+
+HIGH_FIRST, LOW_FIRST = 0, 1
+
+
+def wkb(order, words, numbers=()):
+    """A part of well-known binary: its byte order, a type code and counts, and numbers."""
+    return pack(f"{'><'[order]}B{len(words)}I{len(numbers)}d", order, *words, *numbers)
+
+
+def nest(collections):
+    """A point in so many collections."""
+    return wkb(HIGH_FIRST, [7, 1]) * collections + wkb(LOW_FIRST, [1], [10, 38])
 
 
 class Boxes(unittest.TestCase):
@@ -123,6 +137,113 @@ class Boxes(unittest.TestCase):
         for call in (box.intersects, box.contains, box.merge, box.intersection):
             with self.assertRaisesRegex(TypeError, "expected BoundingBox, not tuple"):
                 call((0, 1, 0, 1))
+
+
+class WellKnownBinary(unittest.TestCase):
+    point = bytes.fromhex("0101000000 0000000000002440 0000000000004340")
+    point_box = BoundingBox((10, 10), (38, 38))
+    empty = BoundingBox(WraparoundInterval.empty(), Interval.empty())
+
+    def test_a_point_low_byte_first(self):
+        self.assertEqual(BoundingBox.from_wkb(self.point), (self.point_box, 1 << 1))
+
+    def test_both_byte_orders(self):
+        box = BoundingBox((-170, 170), (2, 6), z=(-7, 3), m=(4, 8))
+        for order in (HIGH_FIRST, LOW_FIRST):
+            line = wkb(order, [3002, 2], [170, 2, 3, 4, -170, 6, -7, 8])
+            self.assertEqual(BoundingBox.from_wkb(line), (box, 1 << 26))
+
+    def test_parts_have_byte_orders_of_their_own(self):
+        parts = [
+            wkb(LOW_FIRST, [7, 3]),
+            wkb(HIGH_FIRST, [1], [1, 2]),
+            wkb(LOW_FIRST, [3, 2, 1], [5, 6]),
+            # The polygon's second ring.
+            wkb(LOW_FIRST, [1], [7, -8])[1:],
+            wkb(HIGH_FIRST, [4, 1]),
+            wkb(LOW_FIRST, [1], [-3, 4]),
+        ]
+        box = BoundingBox((-3, 7), (-8, 6))
+        self.assertEqual(BoundingBox.from_wkb(b"".join(parts)), (box, 1 << 7))
+
+    def test_each_type_has_its_bit_and_its_dimensions(self):
+        none = Interval.empty()
+        for thousands, known in enumerate([{}, {"z": none}, {"m": none}, {"z": none, "m": none}]):
+            box = BoundingBox(self.empty.x, self.empty.y, **known)
+            for kind in range(2, 8):
+                empty = wkb(LOW_FIRST, [1000 * thousands + kind, 0])
+                self.assertEqual(BoundingBox.from_wkb(empty), (box, 1 << 8 * thousands + kind))
+
+    def test_nan_is_passed_over_and_infinities_are_not(self):
+        point = wkb(LOW_FIRST, [1], [math.nan, math.nan])
+        self.assertEqual(BoundingBox.from_wkb(point), (self.empty, 1 << 1))
+        line = wkb(LOW_FIRST, [2, 3], [math.nan, 5, 1, math.nan, math.inf, -6])
+        box = BoundingBox((1, math.inf), (-6, 5))
+        self.assertEqual(BoundingBox.from_wkb(line), (box, 1 << 2))
+
+    def test_a_record_of_both(self):
+        record = GeoStatistics(*BoundingBox.from_wkb(self.point))
+        self.assertEqual(record, GeoStatistics(bbox=self.point_box, geometry_types=1 << 1))
+
+    def refused(self, number, data):
+        with self.assertRaises(Refusal) as caught:
+            BoundingBox.from_wkb(data)
+        self.assertEqual(caught.exception.number, number, data[:100])
+
+    def test_bytes_too_few_or_left_over(self):
+        good = wkb(HIGH_FIRST, [2, 2], [1, 2, 3, 4])
+        for count in range(len(good)):
+            self.refused(15, good[:count])
+        self.refused(15, good + b"\0")
+        self.refused(15, wkb(LOW_FIRST, [2, 2**32 - 1], [1, 2]))
+
+    def test_of_more_than_65_536_bytes_none_is_read(self):
+        most = wkb(LOW_FIRST, [3004, 1771]) + 1771 * wkb(LOW_FIRST, [3001], [1, 2, 3, 4])
+        self.assertEqual(len(most), 65_536)
+        box = BoundingBox((1, 1), (2, 2), z=(3, 3), m=(4, 4))
+        self.assertEqual(BoundingBox.from_wkb(most), (box, 1 << 28))
+        self.refused(15, wkb(LOW_FIRST, [2, 4096], [1] * 8192))
+        self.refused(15, b"\xff" * 65_537)
+        self.refused(16, b"\xff" * 65_536)
+
+    def test_a_wrong_byte_order_or_type_code(self):
+        self.refused(16, b"\2")
+        self.refused(16, b"\2" + self.point[1:])
+        # None, curves, a TIN, dimensions that there are not, and EWKB's flags of z and of an SRID.
+        for code in (0, 8, 1008, 16, 4001, 0x80000001, 0x20000001):
+            self.refused(16, wkb(LOW_FIRST, [code], [1, 2, 3, 4]))
+        # A whole that takes no such part, and one with other dimensions.
+        for whole, part in [(4, 2), (5, 1), (6, 7), (1004, 1), (7, 1001), (3007, 2001)]:
+            self.refused(16, wkb(LOW_FIRST, [whole, 1]) + wkb(LOW_FIRST, [part], [1, 2, 3]))
+
+    def test_a_collection_is_at_most_32_deep(self):
+        self.assertEqual(BoundingBox.from_wkb(nest(32)), (self.point_box, 1 << 7))
+        self.refused(17, nest(33))
+
+    def test_any_buffer_of_bytes(self):
+        part = memoryview(b"\0" + self.point)[1:]
+        for data in (bytearray(self.point), memoryview(self.point), array("B", self.point), part):
+            self.assertEqual(BoundingBox.from_wkb(data), (self.point_box, 1 << 1))
+        for none in (b"", bytearray(), memoryview(b"")):
+            self.refused(15, none)
+
+    def test_nothing_stays_lent(self):
+        data = bytearray(self.point)
+        BoundingBox.from_wkb(data)
+        data.append(0)
+        self.refused(15, data)
+        data.pop()
+        self.assertEqual(BoundingBox.from_wkb(data), (self.point_box, 1 << 1))
+
+    def test_turned_away(self):
+        for wrong in (self.point.hex(), list(self.point), None, 21):
+            with self.assertRaisesRegex(TypeError, "data must be a buffer of bytes, such as"):
+                BoundingBox.from_wkb(wrong)
+        for wrong in (array("b", self.point[:5]), array("d", [10, 38])):
+            with self.assertRaisesRegex(TypeError, "data must be a buffer of bytes .* has item"):
+                BoundingBox.from_wkb(wrong)
+        with self.assertRaisesRegex(ValueError, "data must be contiguous"):
+            BoundingBox.from_wkb(memoryview(self.point)[::2])
 
 
 if __name__ == "__main__":

@@ -175,4 +175,37 @@ impl BoundingBox {
     pub fn from_geoparquet(array: &[f64]) -> Result<BoundingBox, Refusal> {
         Ok(calls::box_from_geoparquet(array)?.bounding_box())
     }
+
+    /// The box of a geometry in well-known binary, and a set of the geometry's type alone, as
+    /// [`GeoStatistics::geometry_types`](crate::GeoStatistics::geometry_types) has it. z and m are
+    /// known where the type has them.
+    ///
+    /// Read are points, line strings, polygons, their multiples and collections, with the type codes
+    /// of ISO and at most 65,536 bytes. NaN is passed over, infinities are not. The x never wraps
+    /// around. A dimension without a number is empty, as all are of an empty geometry.
+    ///
+    /// # Errors
+    ///
+    /// By the first fault from the front: [`Refusal::WkbLength`] where the bytes are too few or left
+    /// over, or, whatever they are, over 65,536; [`Refusal::WkbCode`] where a byte order is unknown or
+    /// a type code wrong, as are those of curves, surfaces and TINs, with EWKB's flags, and of a part
+    /// that its whole does not take; [`Refusal::WkbDepth`] where a collection is more than 32 deep.
+    ///
+    /// ```
+    /// # use johikape::{BoundingBox, GeoStatistics, Refusal};
+    /// let mut point = vec![1, 1, 0, 0, 0]; // low byte first, a point
+    /// point.extend(10.0_f64.to_le_bytes());
+    /// point.extend(38.0_f64.to_le_bytes());
+    /// let (bbox, types) = BoundingBox::from_wkb(&point)?;
+    /// assert_eq!(bbox, BoundingBox::xy((10.0, 10.0), (38.0, 38.0)));
+    /// assert_eq!(types, 1 << 1);
+    /// let record = GeoStatistics { geometry_types: Some(types), ..bbox.into() };
+    /// # assert_eq!(record.bbox, Some(bbox));
+    /// assert_eq!(BoundingBox::from_wkb(&point[..20]), Err(Refusal::WkbLength));
+    /// # Ok::<(), Refusal>(())
+    /// ```
+    pub fn from_wkb(bytes: &[u8]) -> Result<(BoundingBox, u32), Refusal> {
+        let (found, types) = calls::box_from_wkb(bytes)?;
+        Ok((found.bounding_box(), types))
+    }
 }

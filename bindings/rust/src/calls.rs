@@ -62,6 +62,13 @@ pub(crate) fn box_from_geoparquet(array: &[f64]) -> Result<Ends, Refusal> {
     Refusal::check(number).map(|()| found)
 }
 
+/// The box of a geometry, and its type set.
+pub(crate) fn box_from_wkb(bytes: &[u8]) -> Result<(Ends, u32), Refusal> {
+    let (mut found, mut types) = (Ends::NONE, 0);
+    let number = raw::box_from_wkb(bytes, &mut found.doubles, &mut found.flags, &mut types);
+    Refusal::check(number).map(|()| (found, types))
+}
+
 pub(crate) fn merge(mut a: Record, b: &Record) -> Result<Record, Refusal> {
     let number = raw::johikape_merge(
         &mut a.doubles,

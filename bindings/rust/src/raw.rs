@@ -5,7 +5,7 @@
 //! pointer, writes only through what is `&mut` below, and gives a bad value a number. So a call is
 //! sound where each pointer is good for what its type and count say, and where what is written
 //! overlaps no other argument. Arguments that are references are both by their type, and the
-//! functions that take nothing else are declared `safe`. The six that take lists as pointers and
+//! functions that take nothing else are declared `safe`. The seven that take lists as pointers and
 //! counts are called here alone, over slices.
 
 #![allow(missing_docs)]
@@ -76,6 +76,14 @@ unsafe extern "C" {
         array_count: usize,
         ends: &mut [f64; 8],
         flags: &mut u8,
+    ) -> u32;
+
+    fn johikape_box_from_wkb(
+        bytes: *const u8,
+        bytes_count: usize,
+        ends: &mut [f64; 8],
+        flags: &mut u8,
+        types: &mut u32,
     ) -> u32;
 
     pub safe fn johikape_merge(
@@ -161,13 +169,19 @@ unsafe extern "C" {
     ) -> u32;
 }
 
-// SAFETY, of the six below: each pointer and count are those of one slice, which is lent for the
+// SAFETY, of the seven below: each pointer and count are those of one slice, which is lent for the
 // whole call and only read. What is written is borrowed by the call alone.
 
 /// `johikape_box_from_geoparquet`.
 #[inline]
 pub fn box_from_geoparquet(array: &[f64], ends: &mut [f64; 8], flags: &mut u8) -> u32 {
     unsafe { johikape_box_from_geoparquet(array.as_ptr(), array.len(), ends, flags) }
+}
+
+/// `johikape_box_from_wkb`.
+#[inline]
+pub fn box_from_wkb(bytes: &[u8], ends: &mut [f64; 8], flags: &mut u8, types: &mut u32) -> u32 {
+    unsafe { johikape_box_from_wkb(bytes.as_ptr(), bytes.len(), ends, flags, types) }
 }
 
 /// `johikape_fold`.

@@ -49,6 +49,12 @@ pub enum Refusal {
     /// 14: a NaN or an infinity in a number of a `bbox` array or of its box, or a low above its high
     /// in y or z.
     BadNumbers = 14,
+    /// 15: well-known binary with bytes too few, left over, or over 65,536.
+    WkbLength = 15,
+    /// 16: well-known binary with an unknown byte order or a wrong type code.
+    WkbCode = 16,
+    /// 17: well-known binary with a collection more than 32 deep.
+    WkbDepth = 17,
 }
 
 impl Refusal {
@@ -76,6 +82,11 @@ impl Refusal {
             Refusal::BadNumbers => {
                 "a number is NaN or infinite, or y or z has its low above its high"
             }
+            Refusal::WkbLength => {
+                "bytes of well-known binary are too few, left over, or over 65,536"
+            }
+            Refusal::WkbCode => "well-known binary has an unknown byte order or a wrong type code",
+            Refusal::WkbDepth => "well-known binary has a collection more than 32 deep",
         }
     }
 
@@ -100,6 +111,9 @@ impl Refusal {
             12 => Refusal::BboxLength,
             13 => Refusal::KnownM,
             14 => Refusal::BadNumbers,
+            15 => Refusal::WkbLength,
+            16 => Refusal::WkbCode,
+            17 => Refusal::WkbDepth,
             _ => panic!("the linked johikape answered {number}, which its header does not list"),
         })
     }
@@ -120,7 +134,7 @@ mod tests {
     #[test]
     fn each_number_is_that_of_its_refusal() {
         assert_eq!(Refusal::check(0), Ok(()));
-        for number in [1, 3, 4, 5, 7, 8, 9, 10, 11, 12, 13, 14] {
+        for number in [1, 3, 4, 5, 7, 8, 9, 10, 11, 12, 13, 14, 15, 16, 17] {
             let refusal = Refusal::check(number).unwrap_err();
             assert_eq!(refusal.number(), number);
             let words = refusal.to_string();

@@ -4,9 +4,39 @@ use johikape::{BoundingBox, Interval, Refusal, WraparoundInterval};
 
 const NAN: f64 = f64::NAN;
 
+/// The byte orders of well-known binary.
+const HIGH_FIRST: u8 = 0;
+const LOW_FIRST: u8 = 1;
+
 /// x and y from 0 to 10.
 fn square() -> BoundingBox {
     BoundingBox::xy((0.0, 10.0), (0.0, 10.0))
+}
+
+/// A part of well-known binary: its byte order, a type code and counts, and numbers.
+fn wkb(order: u8, words: &[u32], numbers: &[f64]) -> Vec<u8> {
+    let mut bytes = vec![order];
+    for word in words {
+        bytes.extend(ordered(order, word.to_be_bytes()));
+    }
+    for number in numbers {
+        bytes.extend(ordered(order, number.to_be_bytes()));
+    }
+    bytes
+}
+
+/// Bytes in a byte order, of those with the high one first.
+fn ordered<const COUNT: usize>(order: u8, mut bytes: [u8; COUNT]) -> [u8; COUNT] {
+    if order == LOW_FIRST {
+        bytes.reverse();
+    }
+    bytes
+}
+
+/// A point in so many collections.
+fn nest(collections: usize) -> Vec<u8> {
+    let heads = wkb(HIGH_FIRST, &[7, 1], &[]).repeat(collections);
+    [heads, wkb(LOW_FIRST, &[1], &[10.0, 38.0])].concat()
 }
 
 #[test]
@@ -201,4 +231,135 @@ fn an_array_that_is_no_box_is_refused() {
             "{array:?}"
         );
     }
+}
+
+#[test]
+fn a_point_low_byte_first() {
+    let point = [
+        1, 1, 0, 0, 0, 0, 0, 0, 0, 0, 0, 0x24, 0x40, 0, 0, 0, 0, 0, 0, 0x43, 0x40,
+    ];
+    let bbox = BoundingBox::xy((10.0, 10.0), (38.0, 38.0));
+    assert_eq!(BoundingBox::from_wkb(&point), Ok((bbox, 1 << 1)));
+}
+
+#[test]
+fn both_byte_orders_give_one_box_and_type_set() {
+    let numbers = [170.0, 2.0, 3.0, 4.0, -170.0, 6.0, -7.0, 8.0];
+    let bbox = BoundingBox::xy((-170.0, 170.0), (2.0, 6.0))
+        .with_z((-7.0, 3.0))
+        .with_m((4.0, 8.0));
+    for order in [HIGH_FIRST, LOW_FIRST] {
+        let line = wkb(order, &[3002, 2], &numbers);
+        assert_eq!(BoundingBox::from_wkb(&line), Ok((bbox, 1 << 26)));
+    }
+}
+
+#[test]
+fn parts_have_byte_orders_of_their_own() {
+    let parts = [
+        wkb(LOW_FIRST, &[7, 3], &[]),
+        wkb(HIGH_FIRST, &[1], &[1.0, 2.0]),
+        wkb(LOW_FIRST, &[3, 2, 1], &[5.0, 6.0]),
+        // The polygon's second ring.
+        wkb(LOW_FIRST, &[1], &[7.0, -8.0])[1..].to_vec(),
+        wkb(HIGH_FIRST, &[4, 1], &[]),
+        wkb(LOW_FIRST, &[1], &[-3.0, 4.0]),
+    ];
+    let bbox = BoundingBox::xy((-3.0, 7.0), (-8.0, 6.0));
+    assert_eq!(BoundingBox::from_wkb(&parts.concat()), Ok((bbox, 1 << 7)));
+}
+
+#[test]
+fn each_type_has_its_bit_and_its_dimensions() {
+    let nothing = Interval::empty();
+    let boxes = [
+        BoundingBox::empty(),
+        BoundingBox::empty().with_z(nothing),
+        BoundingBox::empty().with_m(nothing),
+        BoundingBox::empty().with_z(nothing).with_m(nothing),
+    ];
+    for (thousands, bbox) in (0..).zip(boxes) {
+        for kind in 2..=7 {
+            let empty = wkb(LOW_FIRST, &[1000 * thousands + kind, 0], &[]);
+            let types = 1 << (8 * thousands + kind);
+            assert_eq!(BoundingBox::from_wkb(&empty), Ok((bbox, types)));
+        }
+    }
+}
+
+#[test]
+fn nan_is_passed_over_and_infinities_are_not() {
+    let empty = wkb(LOW_FIRST, &[1], &[NAN, NAN]);
+    assert_eq!(
+        BoundingBox::from_wkb(&empty),
+        Ok((BoundingBox::empty(), 1 << 1))
+    );
+    let line = wkb(
+        LOW_FIRST,
+        &[2, 3],
+        &[NAN, 5.0, 1.0, NAN, f64::INFINITY, -6.0],
+    );
+    let bbox = BoundingBox::xy((1.0, f64::INFINITY), (-6.0, 5.0));
+    assert_eq!(BoundingBox::from_wkb(&line), Ok((bbox, 1 << 2)));
+}
+
+#[test]
+fn bytes_too_few_or_left_over_are_refused() {
+    let good = wkb(HIGH_FIRST, &[2, 2], &[1.0, 2.0, 3.0, 4.0]);
+    for count in 0..good.len() {
+        assert_eq!(
+            BoundingBox::from_wkb(&good[..count]),
+            Err(Refusal::WkbLength),
+            "{count}"
+        );
+    }
+    let left_over = [good, vec![0]].concat();
+    let many = wkb(LOW_FIRST, &[2, u32::MAX], &[1.0, 2.0]);
+    for bytes in [left_over, many] {
+        assert_eq!(BoundingBox::from_wkb(&bytes), Err(Refusal::WkbLength));
+    }
+}
+
+#[test]
+fn of_more_than_65_536_bytes_none_is_read() {
+    let point = wkb(LOW_FIRST, &[3001], &[1.0, 2.0, 3.0, 4.0]);
+    let most = [wkb(LOW_FIRST, &[3004, 1771], &[]), point.repeat(1771)].concat();
+    assert_eq!(most.len(), 65_536);
+    let bbox = BoundingBox::xy((1.0, 1.0), (2.0, 2.0))
+        .with_z((3.0, 3.0))
+        .with_m((4.0, 4.0));
+    assert_eq!(BoundingBox::from_wkb(&most), Ok((bbox, 1 << 28)));
+    let line = wkb(LOW_FIRST, &[2, 4096], &[1.0; 8192]);
+    assert_eq!(BoundingBox::from_wkb(&line), Err(Refusal::WkbLength));
+    let bad = [u8::MAX; 65_537];
+    assert_eq!(BoundingBox::from_wkb(&bad), Err(Refusal::WkbLength));
+    assert_eq!(BoundingBox::from_wkb(&bad[1..]), Err(Refusal::WkbCode));
+}
+
+#[test]
+fn a_wrong_byte_order_or_type_code_is_refused() {
+    let mut bad = vec![vec![2], wkb(2, &[1], &[1.0, 2.0])];
+    // None, curves, a TIN, dimensions that there are not, and EWKB's flags of z and of an SRID.
+    for code in [0, 8, 1008, 16, 4001, 0x8000_0001, 0x2000_0001] {
+        bad.push(wkb(LOW_FIRST, &[code], &[1.0, 2.0, 3.0, 4.0]));
+    }
+    // A whole that takes no such part, and one with other dimensions.
+    for (whole, part) in [(4, 2), (5, 1), (6, 7), (1004, 1), (7, 1001), (3007, 2001)] {
+        let head = wkb(LOW_FIRST, &[whole, 1], &[]);
+        bad.push([head, wkb(LOW_FIRST, &[part], &[1.0, 2.0, 3.0])].concat());
+    }
+    for bytes in bad {
+        assert_eq!(
+            BoundingBox::from_wkb(&bytes),
+            Err(Refusal::WkbCode),
+            "{bytes:?}"
+        );
+    }
+}
+
+#[test]
+fn a_collection_is_at_most_32_deep() {
+    let bbox = BoundingBox::xy((10.0, 10.0), (38.0, 38.0));
+    assert_eq!(BoundingBox::from_wkb(&nest(32)), Ok((bbox, 1 << 7)));
+    assert_eq!(BoundingBox::from_wkb(&nest(33)), Err(Refusal::WkbDepth));
 }

@@ -3,3 +3,4 @@ pub mod Filters
 pub mod Intervals
 pub mod Layouts
 pub mod Records
+pub mod Wkb

@@ -6,3 +6,4 @@ pub mod filters;
 pub mod intervals;
 pub mod layouts;
 pub mod records;
+pub mod wkb;

@@ -3,8 +3,8 @@ use mathlib.Core.Path.{_≡_, refl, sym, ap, _∙_}
 use mathlib.Core.Bool.{Bool, true, false}
 use mathlib.Core.List.{List, [], _∷_, _++_}
 use mathlib.Core.Option.{none, some}
-use Prim.Native.Nat.{ℕ, zero, suc, _+_, _-_, _<_, _≤_}
-use native.Mathlib.Nat.{add-zero}
+use Prim.Native.Nat.{ℕ, zero, suc, _+_, _*_, _-_, _<_, _≤_}
+use native.Mathlib.Nat.{add-zero, zero-mul, suc-mul}
 use native.Mathlib.Omega.{arith}
 use lib.Dec.{eqb, ltb}
 use lib.Ieee.{binary64, ofBits}
@@ -16,7 +16,7 @@ use Rattle.sedona_wkb.specs.Extents.{enter, enterAll}
 use Rattle.sedona_wkb.specs.Numbers.{valueOf, ordered, numberAt, doubleAt}
 use Rattle.sedona_wkb.specs.Outcome.{entered, reached}
 use Rattle.sedona_wkb.specs.Reading.{Reading, Reader, refused, found, andThen, _>>=_, give, number, repeat}
-use Rattle.sedona_wkb.specs.Wkb.{Coordinate, headOf, isType, isPart, tested, readHead, readPartHead, hasZ, hasM, readDouble, readWhere, readCoordinate, doubleWhere, widthWhere, width, coordinateAt, counted, readPoint, readOne, within, readMany, byKind, readBody, readCollection}
+use Rattle.sedona_wkb.specs.Wkb.{Coordinate, headOf, isType, isPart, tested, readHead, readPartHead, hasZ, hasM, readDouble, readWhere, readCoordinate, doubleWhere, widthWhere, width, coordinateAt, coordinatesAt, counted, readPoint, readLine, readOne, within, readMany, byKind, readBody, readCollection}
 use Rattle.sedona_wkb.specs.declared.coordinates.Extents.{Extents}
 use Rattle.sedona_wkb.specs.declared.coordinates.Reached.{Reached}
 use Rattle.sedona_wkb.specs.declared.coordinates.Reached.the-variants.{At, Refused}
@@ -85,29 +85,47 @@ module _ (h : Head) (s : List ℕ) where
       (takes-then s (at + 8 + 8) z _ (readWhere (hasZ (h .dims)) (h .low)) _ _ _ (where-taken (hasZ (h .dims)) (h .low) s (at + 8 + 8))
       (takes-made s (at + 8 + 8 + z) _ (readWhere (hasM (h .dims)) (h .low)) _ _ (where-taken (hasM (h .dims)) (h .low) s (at + 8 + 8 + z)))))
 
-  pub coordinate-there : (at : ℕ) → at + width (h .dims) ≤ length s → readCoordinate h (drop at s) ≡ found (coordinateAt h s at) (drop (at + width (h .dims)) s)
-  coordinate-there at = coordinate-taken at .there
+  point-taken : (at : ℕ) → Takes s at (width (h .dims)) (readPoint h) (coordinateAt h s at ∷ [])
+  unfolding readPoint
+  point-taken at = takes-made s at _ (readCoordinate h) (coordinateAt h s at) _ (coordinate-taken at)
+
+  points-taken : (n at : ℕ) → Takes s at (n * width (h .dims)) (repeat n (readPoint h)) (coordinatesAt h s at n)
+  unfolding repeat coordinatesAt
+  points-taken zero at = rw (zero-mul (width (h .dims))) (takes-none s at [])
+  points-taken (suc n) at =
+      let w = width (h .dims) in
+      let m : suc n * w ≡ w + n * w = omega (arith, suc-mul n w) in
+      rw m (takes-then s at w (n * w) (readPoint h) _ _ _ (point-taken at)
+      (takes-made s (at + w) (n * w) (repeat n (readPoint h)) _ (λ ys. coordinateAt h s at ∷ ys) (points-taken n (at + w))))
 
   -- Behind the end there is as much as at the end: nothing.
-  short-at : (at : ℕ) (t : Bool) → ltb (length s) at ≡ t → length s < at + width (h .dims) → readCoordinate h (drop at s) ≡ refused error.wkbLength
+  short-at : (at : ℕ) (t : Bool) → ltb (length s) at ≡ t → length s < at + width (h .dims) → readPoint h (drop at s) ≡ refused error.wkbLength
   short-at at true e g =
       rw (drop-of-length-le s {i = at} (omega (arith, ltb-true (length s) at e)), ← drop-length s)
-      (coordinate-taken (length s) .short (omega arith) (omega arith))
-  short-at at false e g = coordinate-taken at .short (ltb-false _ _ e) g
+      (point-taken (length s) .short (omega arith) (omega arith))
+  short-at at false e g = point-taken at .short (ltb-false _ _ e) g
 
-  pub coordinate-short : (at : ℕ) → length s < at + width (h .dims) → readCoordinate h (drop at s) ≡ refused error.wkbLength
-  coordinate-short at = short-at at (ltb (length s) at) refl
-
--- ---- points
+-- ---- points, and a count of them
 
 module _ (h : Head) (s : List ℕ) (at : ℕ) (e : Extents) where
-  pub point-there : at + width (h .dims) ≤ length s → entered e (readPoint h (drop at s)) ≡ found (enter e (coordinateAt h s at)) (drop (at + width (h .dims)) s)
-  unfolding readPoint andThen entered enterAll
-  point-there g = rw (coordinate-there h s at g)
+  pub point-there : at + width (h .dims) ≤ length s → entered e (readPoint h (drop at s)) ≡ found (enterAll e (coordinatesAt h s at 1)) (drop (at + width (h .dims)) s)
+  unfolding entered enterAll coordinatesAt
+  point-there g = rw (point-taken h s at .there g)
 
   pub point-short : length s < at + width (h .dims) → entered e (readPoint h (drop at s)) ≡ refused error.wkbLength
-  unfolding readPoint andThen entered
-  point-short g = rw (coordinate-short h s at g)
+  unfolding entered
+  point-short g = rw (short-at h s at (ltb (length s) at) refl g)
+
+  -- A coordinate more of those that are left.
+  pub enter-first : (n : ℕ) → 0 < n → enterAll e (coordinatesAt h s at n) ≡ enterAll (enter e (coordinateAt h s at)) (coordinatesAt h s (at + width (h .dims)) (n - 1))
+  unfolding enterAll coordinatesAt
+  enter-first zero g = absurd (omega arith)
+  enter-first (suc n) g = let m : suc n - 1 ≡ n = omega arith in rw m
+
+  pub enter-none : (n : ℕ) → n ≤ 0 → enterAll e (coordinatesAt h s at n) ≡ e
+  unfolding enterAll coordinatesAt
+  enter-none zero g = refl
+  enter-none (suc n) g = absurd (omega arith)
 
 -- ---- counts, and as many parts
 
@@ -119,6 +137,16 @@ module _ (h : Head) (p : Reader (List Coordinate)) (s : List ℕ) (at : ℕ) (e 
   pub counted-short : length s < at + 4 → entered e (counted h p (drop at s)) ≡ refused error.wkbLength
   unfolding counted andThen entered
   counted-short g = rw (number-short s at (h .low) 4 (omega arith) g)
+
+module _ (h : Head) (s : List ℕ) (at : ℕ) (e : Extents) (n : ℕ) (g : at + 4 ≤ length s) (c : n ≡ numberAt (h .low) 4 s at) where
+  pub line-there : at + 4 + n * width (h .dims) ≤ length s
+      → entered e (readLine h (drop at s)) ≡ found (enterAll e (coordinatesAt h s (at + 4) n)) (drop (at + 4 + n * width (h .dims)) s)
+  unfolding entered
+  line-there i = counted-there h (readPoint h) s at e g ∙ rw (← c, points-taken h s n (at + 4) .there i)
+
+  pub line-short : length s < at + 4 + n * width (h .dims) → entered e (readLine h (drop at s)) ≡ refused error.wkbLength
+  unfolding entered
+  line-short i = counted-there h (readPoint h) s at e g ∙ rw (← c, points-taken h s n (at + 4) .short g i)
 
 enter-append : (e : Extents) (xs ys : List Coordinate) → enterAll e (xs ++ ys) ≡ enterAll (enterAll e xs) ys
 unfolding enterAll

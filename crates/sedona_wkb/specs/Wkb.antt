@@ -98,6 +98,11 @@ coordinateAt h s at =
       m = doubleWhere (hasM (h .dims)) (h .low) s (at + 8 + 8 + widthWhere (hasZ (h .dims)));
     }
 
+-- So many coordinates from a place on.
+unfoldable pub coordinatesAt : Head → List ℕ → ℕ → ℕ → List Coordinate
+coordinatesAt h s at zero = []
+coordinatesAt h s at (suc n) = coordinateAt h s at ∷ coordinatesAt h s (at + width (h .dims)) n
+
 -- ---- what follows a head: its coordinates, in their order
 
 -- A count, and that many parts.

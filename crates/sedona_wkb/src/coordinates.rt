@@ -1,6 +1,6 @@
 // Coordinates, and what has no heads inside it: points, lines of points, and polygons of lines.
 ghost use mathlib.Core.Path.{_≡_};
-ghost use Prim.Native.Nat.{_+_, _≤_};
+ghost use Prim.Native.Nat.{_+_, _*_, _≤_};
 ghost use lib.ListN.{length, drop};
 ghost use Rattle.sedona_wkb.specs.Extents as extents;
 ghost use Rattle.sedona_wkb.specs.Outcome as outcome;
@@ -49,7 +49,7 @@ fn width_where(has: bool) -> usize
 
 // How many bytes a coordinate has.
 fn width(dims: u32) -> usize
-    ensures { λ r. ⌜ r ≡ wkb.width dims ⌝ }
+    ensures { λ r. ⌜ (r ≡ wkb.width dims) × (r ≤ 32) ⌝ }
 {
     8 + (8 + (width_where(has_z(dims)) + width_where(has_m(dims))))
 }
@@ -65,7 +65,8 @@ fn merge_where(has: bool, bytes: &[u8], at: usize, low: bool, i: Interval) -> In
     i
 }
 
-// The extents with the coordinate at a place.
+// The extents with the coordinate at a place. (x and y come last, behind what may not be there: their
+// bytes are then read as one.)
 fn enter(bytes: &[u8], at: usize, head: Head, e: Extents) -> Extents
     requires { ⌜ at + wkb.width (head .dims) ≤ length (now bytes) ⌝ }
     ensures { λ r. ⌜ r ≡ extents.enter e (wkb.coordinateAt head (now (bytes .entry)) at) ⌝ }
@@ -74,11 +75,28 @@ fn enter(bytes: &[u8], at: usize, head: Head, e: Extents) -> Extents
     let at_y = at + 8;
     let at_z = at_y + 8;
     let at_m = at_z + width_where(with_z);
-    let x = e.x.merge_value(double_at(bytes, at, head.low));
-    let y = e.y.merge_value(double_at(bytes, at_y, head.low));
     let z = merge_where(with_z, bytes, at_z, head.low, e.z);
     let m = merge_where(has_m(head.dims), bytes, at_m, head.low, e.m);
+    let x = e.x.merge_value(double_at(bytes, at, head.low));
+    let y = e.y.merge_value(double_at(bytes, at_y, head.low));
     Extents { x, y, z, m }
+}
+
+// The extents with so many coordinates from a place on.
+fn enter_all(bytes: &[u8], at: usize, count: u32, head: Head, e: Extents) -> Extents
+    requires { ⌜ at + count * wkb.width (head .dims) ≤ length (now bytes) ⌝ }
+    ensures { λ r. ⌜ r ≡ extents.enterAll e (wkb.coordinatesAt head (now (bytes .entry)) at count) ⌝ }
+{
+    let width = width(head.dims);
+    let mut left = count;
+    let mut place = at;
+    let mut entered = e;
+    while 0 < left {
+        entered = enter(bytes, place, head, entered);
+        place += width;
+        left -= 1;
+    }
+    entered
 }
 
 fn read_point(bytes: &[u8], at: usize, head: Head, e: Extents) -> Reached
@@ -88,29 +106,22 @@ fn read_point(bytes: &[u8], at: usize, head: Head, e: Extents) -> Reached
     if is_short(bytes, at, width) {
         return Reached::Refused(WKB_LENGTH);
     }
-    Reached::At(enter(bytes, at, head, e), at + width)
+    Reached::At(enter_all(bytes, at, 1, head, e), at + width)
 }
 
-// A count, and points.
+// A count, and points. All their bytes are there, or it is short.
 fn read_line(bytes: &[u8], at: usize, head: Head, e: Extents) -> Reached
     ensures { λ r. ⌜ outcome.entered e (wkb.readLine head (drop at (now (bytes .entry)))) ≡ outcome.reached (now (bytes .entry)) r ⌝ }
 {
     if is_short(bytes, at, 4) {
         return Reached::Refused(WKB_LENGTH);
     }
-    let mut left = word_at(bytes, at, head.low);
-    let mut end = at + 4;
-    let mut entered = e;
-    while 0 < left {
-        let reached = read_point(bytes, end, head, entered);
-        let Reached::At(more, next) = reached else {
-            return reached;
-        };
-        end = next;
-        entered = more;
-        left -= 1;
+    let count = word_at(bytes, at, head.low);
+    let length = count as usize * width(head.dims);
+    if is_short(bytes, at + 4, length) {
+        return Reached::Refused(WKB_LENGTH);
     }
-    Reached::At(entered, end)
+    Reached::At(enter_all(bytes, at + 4, count, head, e), at + 4 + length)
 }
 
 // A count, and lines: the rings.

@@ -1,77 +1,79 @@
--- `coordinates::read_line` meets its contract: what is entered and what is left to read are all there is. Assumes nothing.
-use mathlib.Core.Path.{_≡_, _∙_}
-use Prim.Native.Nat.{_+_, _≤_}
-use lib.ListN.{length, drop}
+-- `coordinates::read_line` meets its contract. Assumes nothing.
+use Prim.Native.Nat.{_+_, _*_, _≤_}
+use native.Mathlib.Omega.{arith}
+use native.Mathlib.Nat.{mul-le-mul-left}
+use lib.ListN.{length}
 use borrow.Author.Needs.{needs}
-use Rattle.sedona_wkb.specs.Outcome.{entered, reached}
-use Rattle.sedona_wkb.specs.Reading.{repeat}
-use Rattle.sedona_wkb.specs.Wkb.{readLine, readPoint}
-use Rattle.sedona_wkb.proofs.Readers.{counted-there, counted-short, turn, turn-refused, no-turn}
+use Rattle.sedona_wkb.specs.Outcome.{reached}
+use Rattle.sedona_wkb.specs.Wkb.{readPoint}
+use Rattle.sedona_wkb.proofs.Readers.{counted-short, line-there, line-short}
 use Rattle.sedona_wkb.proofs.Short.{there, short}
 use Rattle.sedona_wkb.proofs.coordinates.read_line.Statement.{statement}
 use Rattle.sedona_wkb.proofs.coordinates.read_line.Tie as tie
 
-abbrev Inv-loop : tie.InvT-loop
-Inv-loop bytes at head left₀ end₀ entered₀ left end e =
-    entered entered₀ (readLine head (drop at bytes)) ≡ entered e (repeat left (readPoint head) (drop end bytes))
-
-abbrev μ-loop : tie.MeasureT-loop
-μ-loop bytes at head left₀ end₀ entered₀ left end e = left
-
-returns : tie.Need-returns Inv-loop μ-loop
+returns : tie.Need-returns
 unfolding reached
 returns c =
     let args = c .before .before .before .args in
     counted-short (args .head) (readPoint (args .head)) (args .bytes .now) (args .at) (args .e) (short (c .before .is-short .ensures) (c .if1 .taken))
 
-word-at-requires : tie.Need-word-at-requires Inv-loop μ-loop
-word-at-requires c κs = there (c .before .is-short .ensures) (c .if1 .left)
+-- The count is there.
+count-is : (c : tie.Else1) → let args = c .before .before .before .args in args .at + 4 ≤ length (args .bytes .now)
+count-is c = there (c .before .is-short .ensures) (c .if1 .left)
 
-add-end : tie.Need-add-end Inv-loop μ-loop
-add-end c =
-    let args = c .before .before .before .before .args in
-    let g : args .at + 4 ≤ length (args .bytes .now) = there (c .before .before .is-short .ensures) (c .before .if1 .left) in
-    search needs
+mul-length : tie.Need-mul-length
+mul-length c = omega (arith, c .before .word-at .ok, mul-le-mul-left (c .before .word-at .result) (c .width .ensures .1))
 
-loop-holds : tie.Need-loop-holds Inv-loop μ-loop
-loop-holds c =
-    let args = c .before .before .before .before .args in
-    rw (c .word-at .ensures) (counted-there (args .head) (readPoint (args .head)) (args .bytes .now) (args .at) (args .e) (there (c .before .before .is-short .ensures) (c .before .if1 .left)))
+add-is-short : tie.Need-add-is-short
+add-is-short c = let g = count-is (c .before .before) in search needs
 
-returns-2 : tie.Need-returns-2 Inv-loop μ-loop
-returns-2 c =
-    let test = c .before .before .before in
-    let args = test .before .before .before .before .before .before .args in
-    let loop = test .before .loop in
-    loop .inv ∙ turn-refused (args .bytes .now) (readPoint (args .head)) (loop .end) _ _ (c .before .before .read-point .ensures) _ (test .loop-test .taken) _ (c .enum-told .given .1)
-
-loop-again : tie.Need-loop-again Inv-loop μ-loop
-loop-again c =
-    let test = c .before .before .before .before in
-    let args = test .before .before .before .before .before .before .args in
-    let loop = test .before .loop in
-    loop .inv ∙ turn (args .bytes .now) (readPoint (args .head)) (loop .end) _ _ (c .before .before .before .read-point .ensures) _ (test .loop-test .taken) _ _ (c .before .reached .given .1)
-
-returns-3 : tie.Need-returns-3 Inv-loop μ-loop
+returns-2 : tie.Need-returns-2
 unfolding reached
-returns-3 c = c .before .loop .inv ∙ no-turn _ _ _ _ (c .loop-test .left)
+returns-2 c =
+    let w = c .before .before in
+    let else1 = w .before .before in
+    let args = else1 .before .before .before .args in
+    line-short (args .head) (args .bytes .now) (args .at) (args .e) _ (count-is else1) (w .before .word-at .ensures) (rw (← w .width .ensures .0) (short (c .before .is-short2 .ensures) (c .if2 .taken)))
+
+-- The points are there.
+points-are : (c : tie.Else2) → let w = c .before .before in let args = w .before .before .before .before .before .args in args .at + 4 + w .before .word-at .result * w .width .result ≤ length (args .bytes .now)
+points-are c = there (c .before .is-short2 .ensures) (c .if2 .left)
+
+enter-all-requires : tie.Need-enter-all-requires
+enter-all-requires c κs = rw (← c .before .before .width .ensures .0) (points-are c)
+
+add-enter-all : tie.Need-add-enter-all
+add-enter-all c = let g = count-is (c .before .before .before .before) in search needs
+
+add-t8 : tie.Need-add-t8
+add-t8 c = let g = count-is (c .before .before .before .before .before) in search needs
+
+add-t12 : tie.Need-add-t12
+add-t12 c = let g = points-are (c .before) in search needs
+
+returns-3 : tie.Need-returns-3
+unfolding reached
+returns-3 c =
+    let w = c .before .before .before in
+    let else1 = w .before .before in
+    let args = else1 .before .before .before .args in
+    rw (c .enter-all .ensures, w .width .ensures .0) (line-there (args .head) (args .bytes .now) (args .at) (args .e) (w .before .word-at .result) (count-is else1) (w .before .word-at .ensures) (rw (← w .width .ensures .0) (points-are (c .before))))
 
 pub read-line-spec : {M : Type 1} → statement M
 read-line-spec =
     tie.close
     (tie.spec
-    Inv-loop
-    μ-loop
     (λ c κs. tt)
     returns
-    word-at-requires
-    add-end
-    loop-holds
+    (λ c κs. count-is c)
+    (λ c. search needs)
     (λ c κs. tt)
-    (λ c. search needs)
-    (λ c. search needs)
+    mul-length
+    add-is-short
+    (λ c κs. tt)
     returns-2
-    (λ c. search needs)
-    (λ c. search needs)
-    loop-again
+    add-enter-all
+    enter-all-requires
+    add-t8
+    add-t12
     returns-3)
