@@ -100,6 +100,14 @@ impl Answer {
         Answer::joined([Answer(vec![Part::Integer(number)]), bounds.into()])
     }
 
+    /// The number 0, a box, and a type set by its bits; or the number that refuses them, an empty
+    /// box and an empty set.
+    pub fn typed(result: Result<(BoundingBox, u32), u64>) -> Answer {
+        let types = result.as_ref().map_or(0, |(_, types)| *types);
+        let bounds = result.map(|(bounds, _)| bounds);
+        Answer::joined([Answer::boxed(bounds), types.into()])
+    }
+
     /// The number 0, how many numbers an array has, and these with 0 behind them; or the number that
     /// refuses it, and an empty array.
     pub fn laid_out(result: Result<Vec<f64>, u64>) -> Answer {

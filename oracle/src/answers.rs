@@ -9,7 +9,11 @@ use crate::filters::{Lookup, Tables, bounds, read_flag, read_list};
 use crate::layouts::{from_geoparquet, to_geoparquet};
 use crate::names::{Many, find_name};
 use crate::operands::Lists;
-use crate::text::{read, read_set};
+use crate::text::{read, read_bytes, read_set};
+use crate::wkb::{MOST_BYTES, wkb_bounds};
+
+/// The longest line that is no comment.
+const MOST_LINE: usize = 1023;
 
 /// The case file with the answers behind its lines.
 pub fn answers(calls: &[Call], cases: &str) -> String {
@@ -46,6 +50,9 @@ impl Reader<'_> {
         if line.is_empty() || line.starts_with('#') {
             return Line::Copied;
         }
+        if line.len() > MOST_LINE {
+            return Line::Unknown;
+        }
         let words: Vec<&str> = line.split(' ').collect();
         let answer = match words[..] {
             ["values", ref words @ ..] => return copied(self.lists.set_values(words)),
@@ -60,6 +67,7 @@ impl Reader<'_> {
                 .filter(name, operands)
                 .or_else(|| self.search(name, operands))
                 .or_else(|| layout(name, operands))
+                .or_else(|| wkb(name, operands))
                 .or_else(|| self.single(name, operands)),
             [] => None,
         };
@@ -124,6 +132,27 @@ fn layout(name: &str, operands: &[&str]) -> Option<String> {
         _ => return None,
     };
     Some(answer.text())
+}
+
+/// The call of a geometry's bytes, which are all spelled, or have zeros behind those that are.
+fn wkb(name: &str, operands: &[&str]) -> Option<String> {
+    let bytes = match (name.strip_prefix("sedona_wkb::")?, operands) {
+        ("wkb_bounds", words) => read_bytes(words)?,
+        ("wkb_bounds_of_padded", [length, words @ ..]) => {
+            padded(read_bytes(words)?, read_set(length)? as usize)?
+        }
+        _ => return None,
+    };
+    Some(Answer::typed(wkb_bounds(&bytes)).text())
+}
+
+/// Bytes with zeros behind them. They can be one more than a geometry may have.
+fn padded(mut bytes: Vec<u8>, length: usize) -> Option<Vec<u8>> {
+    if length < bytes.len() || length > MOST_BYTES + 1 {
+        return None;
+    }
+    bytes.resize(length, 0);
+    Some(bytes)
 }
 
 /// A line with a list that was taken, or was none.

@@ -205,7 +205,7 @@ fn cut<T>(list: &mut Vec<T>) {
 }
 
 /// Puts a value in a place of a list, where it has that.
-fn put<T>(list: &mut [T], place: usize, value: T) {
+pub fn put<T>(list: &mut [T], place: usize, value: T) {
     if let Some(old) = list.get_mut(place) {
         *old = value;
     }

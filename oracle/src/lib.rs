@@ -16,6 +16,9 @@ pub mod records;
 pub mod refusals;
 pub mod shims;
 pub mod text;
+pub mod wkb;
+pub mod wkb_draws;
+pub mod wkb_writer;
 
 // The lent files of sedona-expr name these two as their neighbours.
 use shims::{metadata_preserving_column, utils};

@@ -4,13 +4,17 @@ use crate::calls::Call;
 use crate::filters::{MOST_WORDS, Tables};
 use crate::operands::{Kind, MISSING};
 use crate::records::TOTALS;
-use crate::text::{write_line, write_operands};
+use crate::text::{write_bytes, write_line, write_operands};
 
-/// Filter calls, those of the two layouts and those over many columns, which are not in the table of
-/// calls.
+/// Filter calls, those of the two layouts, those over many columns and those of bytes, which are
+/// not in the table of calls. The last count for more than two, since their cases are so many.
 const FILTER_CALLS: usize = 3;
 const LAYOUT_CALLS: usize = 2;
 const MANY_CALLS: usize = 2;
+const WKB_CALLS: usize = 8;
+
+/// The most bytes that are spelled, in a line of less than 1,000.
+const MOST_SPELLED: usize = 460;
 
 /// What a box may know besides x and y, as flags: nothing, z, m, or both.
 const FLAGS: [u8; 4] = [1, 3, 5, 7];
@@ -23,13 +27,15 @@ pub fn cases(calls: &[Call], values: &[f64], seed: u64, count: usize) -> String 
     let mut random = Random::new(seed, values);
     let layouts = calls.len() + FILTER_CALLS;
     let many = layouts + LAYOUT_CALLS;
+    let wkb = many + MANY_CALLS;
     let cases = (0..count).map(|_| {
-        let place = random.below(many + MANY_CALLS);
+        let place = random.below(wkb + WKB_CALLS);
         match calls.get(place) {
             Some(call) => write_line(&call.name, &random.words(&call.operands)),
             None if place < layouts => random.filter_case(),
             None if place < many => random.layout_case(),
-            None => random.many_case(),
+            None if place < wkb => random.many_case(),
+            None => random.wkb_case(),
         }
     });
     cases.collect()
@@ -128,6 +134,29 @@ impl Random<'_> {
         let array = write_operands(&self.array());
         write_line("geoparquet_bbox::to_geoparquet", &words)
             + &write_line("geoparquet_bbox::from_geoparquet", &array)
+    }
+
+    /// The call of a geometry's bytes; of 32 one is of a long geometry.
+    fn wkb_case(&mut self) -> String {
+        if self.below(32) == 0 {
+            return self.padded_case();
+        }
+        let mut bytes = self.wkb();
+        while bytes.len() > MOST_SPELLED {
+            bytes = self.wkb();
+        }
+        write_line("sedona_wkb::wkb_bounds", &write_bytes(&bytes))
+    }
+
+    /// The call of bytes of which the zeros at the end are not spelled.
+    fn padded_case(&mut self) -> String {
+        let mut bytes = self.padded_wkb();
+        while without_zeros(&bytes).len() > MOST_SPELLED {
+            bytes = self.padded_wkb();
+        }
+        let mut words = vec![bytes.len().to_string()];
+        words.extend(write_bytes(without_zeros(&bytes)));
+        write_line("sedona_wkb::wkb_bounds_of_padded", &words)
     }
 
     /// The ends of a box, and its flag.
@@ -248,4 +277,10 @@ impl Random<'_> {
             _ => [0, 1, 0x8000_0000, u32::MAX][self.below(4)],
         }
     }
+}
+
+/// Bytes without the zeros at their end.
+fn without_zeros(bytes: &[u8]) -> &[u8] {
+    let last = bytes.iter().rposition(|byte| *byte != 0);
+    &bytes[..last.map_or(0, |last| last + 1)]
 }

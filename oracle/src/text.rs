@@ -1,6 +1,7 @@
 //! Doubles as the case language reads and writes them: `nan`, `inf`, `-inf`; an integer `N`, or a
 //! quotient `N/D` rounded once, with or without `-`; `x` and the 16 hex digits of the bits. And type
-//! sets and totals as it reads them: integers of 32 bits, and of 64 bits with or without `-`.
+//! sets and totals as it reads them: integers of 32 bits, and of 64 bits with or without `-`. And
+//! bytes by their hex digits, in words of any length.
 
 /// The largest integer of a case. Up to here every integer is a double.
 const LARGEST: u64 = 1 << 53;
@@ -19,11 +20,32 @@ pub fn read(word: &str) -> Option<f64> {
 }
 
 fn read_bits(digits: &str) -> Option<f64> {
-    let is_digit = |digit| matches!(digit, b'0'..=b'9' | b'a'..=b'f');
-    if digits.len() != 16 || !digits.bytes().all(is_digit) {
+    if digits.len() != 16 || !is_hex(digits) {
         return None;
     }
     u64::from_str_radix(digits, 16).ok().map(f64::from_bits)
+}
+
+fn is_hex(digits: &str) -> bool {
+    let is_digit = |digit| matches!(digit, b'0'..=b'9' | b'a'..=b'f');
+    digits.bytes().all(is_digit)
+}
+
+/// The bytes that words spell, of which a byte's two digits may stand in two.
+pub fn read_bytes(words: &[&str]) -> Option<Vec<u8>> {
+    let digits = words.concat();
+    if !digits.len().is_multiple_of(2) || !is_hex(&digits) {
+        return None;
+    }
+    let places = (0..digits.len()).step_by(2);
+    let bytes = places.map(|at| u8::from_str_radix(&digits[at..at + 2], 16).ok());
+    bytes.collect()
+}
+
+/// The words for bytes, 16 a word.
+pub fn write_bytes(bytes: &[u8]) -> Vec<String> {
+    let word = |bytes: &[u8]| bytes.iter().map(|byte| format!("{byte:02x}")).collect();
+    bytes.chunks(16).map(word).collect()
 }
 
 /// `inf`, `N` or `N/D`.
@@ -141,6 +163,20 @@ mod tests {
         assert_eq!(read_set("4294967295"), Some(u32::MAX));
         for word in ["", "-", "-1", "+1", "1/1", "inf", "4294967296"] {
             assert_eq!(read_set(word), None, "{word}");
+        }
+    }
+
+    #[test]
+    fn bytes() {
+        let bytes: Vec<u8> = (0..=255).collect();
+        let words = write_bytes(&bytes);
+        let words: Vec<&str> = words.iter().map(String::as_str).collect();
+        assert_eq!(words[0], "000102030405060708090a0b0c0d0e0f");
+        assert_eq!(read_bytes(&words), Some(bytes));
+        assert_eq!(read_bytes(&[]), Some(vec![]));
+        assert_eq!(read_bytes(&["0", "1f", "e"]), Some(vec![0x01, 0xfe]));
+        for word in ["0", "012", "0g", "0A", "+1", "0x01", "é"] {
+            assert_eq!(read_bytes(&[word]), None, "{word}");
         }
     }
 

@@ -11,10 +11,12 @@ use crate::names::FILTER;
 use crate::names::LAYOUT;
 use crate::names::MANY;
 use crate::names::STATISTICS;
+use crate::names::WKB;
 use crate::names::call_named;
 use crate::names::takes;
 use crate::records::put_call_of_records;
 use crate::tables::Nodes;
+use crate::wkb::put_call_of_wkb;
 use bytes::scan::find;
 use check::same;
 use replay_geometry::answer::put_answer;
@@ -112,6 +114,9 @@ fn put_reply(
     let call = call_named(first);
     if !takes(call, words.count) {
         return put_unknown(out, filled);
+    }
+    if call.owner == WKB {
+        return put_call_of_wkb(out, filled, call, rest);
     }
     put_call(out, filled, call, words, kept, nodes)
 }

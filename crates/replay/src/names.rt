@@ -1,4 +1,4 @@
-// The names of the calls of sedona_expr and geoparquet_bbox, beside those of sedona_geometry.
+// The names of the calls of sedona_expr, geoparquet_bbox and sedona_wkb, beside those of sedona_geometry.
 use replay_geometry::boxes::BOX;
 use replay_geometry::names as geometry;
 use replay_geometry::names::Call;
@@ -16,6 +16,8 @@ pub const LAYOUT: u8 = 8;
 
 pub const MANY: u8 = 9;
 
+pub const WKB: u8 = 10;
+
 // The rest of its name, in the same way.
 pub const UNSPECIFIED: u8 = 34;
 
@@ -32,6 +34,10 @@ pub const TO_GEOPARQUET: u8 = 39;
 pub const FROM_GEOPARQUET: u8 = 40;
 
 pub const FIND_NAME: u8 = 41;
+
+pub const WKB_BOUNDS: u8 = 42;
+
+pub const WKB_BOUNDS_OF_PADDED: u8 = 43;
 
 // The operands of a call that takes any number of words.
 const ANY: usize = usize::MAX;
@@ -56,6 +62,10 @@ pub fn call_named(word: &[u8]) -> Call {
         return call;
     }
     let call = call_of_many(word);
+    if call.is_known() {
+        return call;
+    }
+    let call = call_of_wkb(word);
     if call.is_known() {
         return call;
     }
@@ -118,6 +128,18 @@ fn call_of_layout(word: &[u8]) -> Call {
             word,
             b"geoparquet_bbox::from_geoparquet",
             FROM_GEOPARQUET,
+            ANY,
+        )
+}
+
+// The call of well-known binary, in any number of words; in the second the first is how many bytes.
+fn call_of_wkb(word: &[u8]) -> Call {
+    Call::unknown(WKB)
+        .row(word, b"sedona_wkb::wkb_bounds", WKB_BOUNDS, ANY)
+        .row(
+            word,
+            b"sedona_wkb::wkb_bounds_of_padded",
+            WKB_BOUNDS_OF_PADDED,
             ANY,
         )
 }

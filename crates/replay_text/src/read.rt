@@ -1,5 +1,6 @@
 // Words, read as doubles: `nan`, `inf`, an integer `N` or a quotient `N/D`, the last three with or
-// without `-`; or `x` and the 16 hex digits of the bits. And words, read as type sets: integers.
+// without `-`; or `x` and the 16 hex digits of the bits. And words, read as type sets: integers; and as
+// bytes: hex digits.
 ghost use Prim.Native.Nat.{_≤_};
 use bytes::scan::find;
 use check::same;
@@ -9,6 +10,14 @@ pub const LARGEST: u64 = 9007199254740992;
 
 // The magnitude of the least total.
 const LEAST_MAGNITUDE: u64 = 0x8000_0000_0000_0000;
+
+// The most bytes that a case lends: one more than are read of a geometry.
+pub const MOST_BYTES: usize = 65537;
+
+pub type Bytes = [u8; MOST_BYTES];
+
+// How many digits a text has that spells no bytes: an odd number.
+const NO_BYTES: usize = usize::MAX;
 
 // What a word spells, read as a double.
 pub enum Reading {
@@ -186,6 +195,33 @@ fn read_digits(digits: &[u8], base: u64) -> Number
         n = n * base + digit;
     }
     Number::Whole(n)
+}
+
+// Puts the bytes that hex digits spell, two a byte, and gives how many digits there are; an odd number
+// where the text spells none. Spaces are passed over.
+pub fn read_bytes(bytes: &mut Bytes, text: &[u8]) -> usize {
+    let mut digits = 0;
+    for i in 0..text.len() {
+        digits = read_byte_digit(bytes, digits, text[i]);
+    }
+    digits
+}
+
+// Puts one digit more, and gives how many there are then.
+fn read_byte_digit(bytes: &mut Bytes, digits: usize, byte: u8) -> usize {
+    if byte == b' ' {
+        return digits;
+    }
+    let place = digits / 2;
+    let digit = digit_value(byte);
+    if digit >= 16 {
+        return NO_BYTES;
+    }
+    if place >= MOST_BYTES {
+        return NO_BYTES;
+    }
+    bytes[place] = bytes[place] % 16 * 16 + digit as u8;
+    digits + 1
 }
 
 // What a decimal or hex digit stands for; 16 for any other byte.

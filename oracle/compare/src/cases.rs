@@ -101,6 +101,19 @@ impl Case for LayoutCase {
     }
 }
 
+/// For the call of a geometry's bytes.
+pub struct WkbCase {
+    pub bytes: Vec<u8>,
+}
+
+impl Case for WkbCase {
+    fn draw(random: &mut Random) -> Self {
+        WkbCase {
+            bytes: random.wkb(),
+        }
+    }
+}
+
 /// Of 32 boxes one has any flags.
 fn box_flags(random: &mut Random) -> u8 {
     match random.below(32) {

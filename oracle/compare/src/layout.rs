@@ -66,6 +66,20 @@ impl Bounds {
     }
 }
 
+/// What is written of a geometry: its box, and its type as a set.
+#[derive(Clone, Copy)]
+pub struct Typed {
+    pub bounds: Bounds,
+    pub types: u32,
+}
+
+impl Typed {
+    pub const PATTERN: Typed = Typed {
+        bounds: Bounds::PATTERN,
+        types: u32::from_ne_bytes([PATTERN; 4]),
+    };
+}
+
 /// A `bbox` array: six places, of which the first so many are the array.
 #[derive(Clone, Copy)]
 pub struct Array {
@@ -131,7 +145,7 @@ impl Record {
     pub const PATTERN: Record = Record {
         doubles: [Bounds::PATTERN.ends[0]; 10],
         totals: [i64::from_ne_bytes([PATTERN; 8]); 7],
-        types: u32::from_ne_bytes([PATTERN; 4]),
+        types: Typed::PATTERN.types,
         flags: u32::from_ne_bytes([PATTERN; 4]),
     };
 
@@ -223,6 +237,15 @@ impl From<Bounds> for Record {
         Record {
             flags: bounds.flags.into(),
             ..Record::from(&bounds.ends[..])
+        }
+    }
+}
+
+impl From<Typed> for Record {
+    fn from(typed: Typed) -> Record {
+        Record {
+            types: typed.types,
+            ..Record::from(typed.bounds)
         }
     }
 }

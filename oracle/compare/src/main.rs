@@ -10,6 +10,7 @@ mod layout;
 mod library;
 mod records;
 mod show;
+mod wkb;
 
 use compared::Group;
 use oracle::random::Random;
@@ -23,10 +24,10 @@ const COUNT: u64 = 10_000_000;
 
 /// The groups of `compare` to draw from, by their places. Those of intervals and of boxes are made
 /// fast, and come twice as often.
-const TURNS: [usize; 8] = [0, 0, 1, 1, 2, 3, 4, 5];
+const TURNS: [usize; 9] = [0, 0, 1, 1, 2, 3, 4, 5, 6];
 
 /// The group of wide tables, which are made slowly: of so many turns it has one.
-const WIDE: usize = 6;
+const WIDE: usize = 7;
 const ONE_WIDE_IN: usize = 32;
 
 fn main() -> ExitCode {
@@ -58,13 +59,14 @@ fn read_arguments() -> Option<(u64, u64)> {
 
 /// Makes the calls; gives the table of what they gave, or the first difference.
 fn compare(seed: u64, count: u64) -> Result<String, String> {
-    let mut groups: [Box<dyn Group>; 7] = [
+    let mut groups: [Box<dyn Group>; 8] = [
         Box::new(intervals::calls()),
         Box::new(boxes::calls()),
         Box::new(records::merges()),
         Box::new(records::folds()),
         Box::new(filters::calls()),
         Box::new(geoparquet::calls()),
+        Box::new(wkb::calls()),
         Box::new(filters::wide_calls()),
     ];
     let values = cases::values();

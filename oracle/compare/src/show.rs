@@ -1,9 +1,10 @@
 //! Cases and what calls gave, as text: each double by its bits and as a number.
 
-use crate::cases::{BoxCase, FilterCase, IntervalCase, LayoutCase, RecordCase, WideCase};
+use crate::cases::{BoxCase, FilterCase, IntervalCase, LayoutCase, RecordCase, WideCase, WkbCase};
 use crate::layout::{Bounds, Record, Records};
 use johikape::Interval;
 use oracle::filters::Boxes;
+use oracle::text::write_bytes;
 use std::fmt::{Display, Formatter, Result};
 
 fn doubles(doubles: &[f64]) -> String {
@@ -59,6 +60,13 @@ impl Display for BoxCase {
 impl Display for LayoutCase {
     fn fmt(&self, f: &mut Formatter<'_>) -> Result {
         write!(f, "box: {}\narray: {}", self.bounds, doubles(&self.array))
+    }
+}
+
+impl Display for WkbCase {
+    fn fmt(&self, f: &mut Formatter<'_>) -> Result {
+        let bytes = write_bytes(&self.bytes).join(" ");
+        write!(f, "{} bytes: {bytes}", self.bytes.len())
     }
 }
 
