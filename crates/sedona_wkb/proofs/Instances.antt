@@ -46,32 +46,24 @@ mixed =
     (cons (many point (xy 5 7 ∷ xy 9 11 ∷ []))
     (cons (collection (cons (one lineString (xy 13 15 ∷ xy 17 19 ∷ [])) nil)) nil)))
 
-mixed-writable : (orders : Orders) → length (encode orders 0 mixed) ≤ 65536 → Writable orders 0 mixed
-unfolding coordinates coordinatesOf concat fits depth
-mixed-writable orders n =
+mixed-writable : Writable 0 mixed
+unfolding coordinates coordinatesOf concat fits depth encode encodeOne encodeHead encodeNumber ordered bytesOf encodeContent encodeCoordinate encodeDouble encodeWhere encodeCounted encodeFrom
+mixed-writable =
     record {
       dims = omega arith;
       coordinates = (of-xy 1 3 tt tt, (of-xy 5 7 tt tt, (of-xy 9 11 tt tt, (of-xy 13 15 tt tt, (of-xy 17 19 tt tt, tt)))));
-      length = n;
+      length = omega arith;
       depth = omega arith;
     }
 
-mixed-alternating : Writable alternating 0 mixed
-unfolding alternating encode encodeOne encodeHead encodeNumber ordered bytesOf encodeContent encodeCoordinate encodeDouble encodeWhere encodeCounted encodeFrom
-mixed-alternating = mixed-writable alternating (omega arith)
-
-mixed-low-first : Writable lowFirst 0 mixed
-unfolding encode encodeOne encodeHead encodeNumber ordered bytesOf encodeContent encodeCoordinate encodeDouble encodeWhere encodeCounted encodeFrom
-mixed-low-first = mixed-writable lowFirst (omega arith)
-
 pub mixed-read : spelled (encode alternating 0 mixed) ≡ found (asSpelled 0 mixed) []
-mixed-read = there-and-back alternating 0 mixed mixed-alternating
+mixed-read = there-and-back alternating 0 mixed mixed-writable
 
 pub mixed-in-either-order : wkbBounds (encode alternating 0 mixed) ≡ wkbBounds (encode lowFirst 0 mixed)
-mixed-in-either-order = either-order alternating lowFirst 0 mixed mixed-alternating mixed-low-first
+mixed-in-either-order = either-order alternating lowFirst 0 mixed mixed-writable
 
 pub mixed-accepted : All (AcceptsCoordinate (boxFrom (encode alternating 0 mixed))) (coordinates mixed)
-mixed-accepted = accepts-every-written alternating 0 mixed mixed-alternating
+mixed-accepted = accepts-every-written alternating 0 mixed mixed-writable
 
 -- ---- a MultiPolygon ZM, high byte first, of a polygon with two rings
 
@@ -81,9 +73,9 @@ xyzm x y z m = record { x = num x; y = num y; z = some (num z); m = some (num m)
 abbrev polygons : Geometry
 polygons = many polygon (((xyzm 1 3 5 7 ∷ xyzm 9 11 13 15 ∷ []) ∷ (xyzm 17 19 21 23 ∷ []) ∷ []) ∷ [])
 
-polygons-high-first : Writable highFirst 3 polygons
+polygons-writable : Writable 3 polygons
 unfolding coordinates coordinatesOf concat fits depth encode encodeOne encodeHead encodeNumber ordered bytesOf encodeContent encodeCoordinate encodeDouble encodeWhere encodeCounted encodeFrom
-polygons-high-first =
+polygons-writable =
     record {
       dims = omega arith;
       coordinates = (record { x = tt; y = tt; z = tt; m = tt }, (record { x = tt; y = tt; z = tt; m = tt }, (record { x = tt; y = tt; z = tt; m = tt }, tt)));
@@ -92,10 +84,10 @@ polygons-high-first =
     }
 
 pub polygons-read : spelled (encode highFirst 3 polygons) ≡ found (asSpelled 3 polygons) []
-polygons-read = there-and-back highFirst 3 polygons polygons-high-first
+polygons-read = there-and-back highFirst 3 polygons polygons-writable
 
 pub polygons-accepted : All (AcceptsCoordinate (boxFrom (encode highFirst 3 polygons))) (coordinates polygons)
-polygons-accepted = accepts-every-written highFirst 3 polygons polygons-high-first
+polygons-accepted = accepts-every-written highFirst 3 polygons polygons-writable
 
 -- ---- bytes: POINT (1 1), low byte first, computed
 

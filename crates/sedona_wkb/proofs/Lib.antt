@@ -5,5 +5,6 @@ mod Only
 mod Answers
 mod Covering
 mod Back
+mod Lengths
 mod ThereAndBack
 mod Instances

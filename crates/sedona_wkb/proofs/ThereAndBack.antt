@@ -5,17 +5,17 @@ use mathlib.Core.List.{List, [], _∷_, _++_, append-assoc, append-nil}
 use Prim.Native.Nat.{ℕ, suc, _+_, _*_, _%_, _/_, _-_, _<_, _≤_}
 use native.Mathlib.Nat.{le-max-left, le-max-right}
 use native.Mathlib.Omega.{arith}
-use lib.Dec.{eqb}
 use lib.ListN.{length, length-append}
 use borrow.Author.Tests.{eq-eqb, lt-ltb, le-leb}
 use Rattle.sedona_wkb.specs.Bounds.{answer, wkbBounds, boxFrom, AcceptsCoordinate}
-use Rattle.sedona_wkb.specs.Geometry.{Shape, point, lineString, polygon, Content, Geometry, one, many, collection, Geometries, nil, cons, kindOfShape, kindOf, concat, coordinatesOf, coordinates, allCoordinates, depth, deepest, count, OfDims, All, Orders, inPart, encodeNumber, encodeDouble, encodeCoordinate, encodeCounted, encodeLine, encodeContent, encodeHead, encodeOne, encode, encodeAll, Writable}
+use Rattle.sedona_wkb.specs.Geometry.{Shape, point, lineString, polygon, Content, Geometry, one, many, collection, Geometries, nil, cons, kindOfShape, kindOf, concat, coordinatesOf, coordinates, allCoordinates, depth, deepest, count, OfDims, All, Orders, inPart, encodeNumber, encodeCoordinate, encodeCounted, encodeLine, encodeContent, encodeHead, encodeOne, encode, encodeAll, Writable}
 use Rattle.sedona_wkb.specs.Reading.{Reader, found, andThen, number, repeat}
 use Rattle.sedona_wkb.specs.Wkb.{Coordinate, headOf, isType, isPart, tested, readHead, readPartHead, counted, readPoint, readLine, readOne, within, readMember, readBody, readPart, Spelled, ended, readRest, spelled}
 use Rattle.sedona_wkb.specs.declared.heads.Head.{Head}
 use Rattle.sedona_wkb.proofs.Answers.{head-found}
 use Rattle.sedona_wkb.proofs.Back.{length-number, length-double, number-back, point-back, all-front, all-behind, Back, counted-back}
 use Rattle.sedona_wkb.proofs.Covering.{accepts-every-coordinate}
+use Rattle.sedona_wkb.proofs.Lengths.{length-any}
 use Rattle.sedona_wkb.proofs.Readers.{byte-there, body-one, body-many, body-collection}
 
 -- ---- heads
@@ -197,21 +197,21 @@ abbrev pub asSpelled : ℕ → Geometry → Spelled
 asSpelled d g = record { kind = kindOf g; dims = d; coordinates = coordinates g }
 
 -- Reading what `encode` writes gives the geometry's coordinates and type, whatever the byte orders.
-pub there-and-back : (orders : Orders) (d : ℕ) (g : Geometry) → Writable orders d g → spelled (encode orders d g) ≡ found (asSpelled d g) []
+pub there-and-back : (orders : Orders) (d : ℕ) (g : Geometry) → Writable d g → spelled (encode orders d g) ≡ found (asSpelled d g) []
 unfolding readRest andThen ended
 there-and-back orders d g w =
     let h = headFor (orders []) (kindOf g) d in
+    let n : length (encode orders d g) ≤ 65536 = rw (length-any d orders (λ place. true) g) (w .length) in
     let b : readBody 32 h (bodyBytes orders d g) ≡ found (coordinates g) []
-    = rw (append-nil (bodyBytes orders d g)) at (body-back d (w .dims) orders g (w .coordinates) (omega (arith, w .length, length-encode orders d g)) 32 (w .depth) []) in
-    head-found (encode orders d g) (w .length) h (bodyBytes orders d g)
+    = rw (append-nil (bodyBytes orders d g)) at (body-back d (w .dims) orders g (w .coordinates) (omega (arith, n, length-encode orders d g)) 32 (w .depth) []) in
+    head-found (encode orders d g) n h (bodyBytes orders d g)
     (rw (encode-is orders d g) (head-back (kindOf g) d (least-kind-of g) (most-kind-of g) (w .dims) (bodyBytes orders d g) (orders [])))
     ∙ rw b
 
 -- "One geometry written in either byte order gives one box", and one type: in any two choices of a byte order for each part.
-pub either-order : (orders orders′ : Orders) (d : ℕ) (g : Geometry) → Writable orders d g → Writable orders′ d g
-    → wkbBounds (encode orders d g) ≡ wkbBounds (encode orders′ d g)
-either-order orders orders′ d g w w′ = ap answer (there-and-back orders d g w ∙ sym (there-and-back orders′ d g w′))
+pub either-order : (orders orders′ : Orders) (d : ℕ) (g : Geometry) → Writable d g → wkbBounds (encode orders d g) ≡ wkbBounds (encode orders′ d g)
+either-order orders orders′ d g w = ap answer (there-and-back orders d g w ∙ sym (there-and-back orders′ d g w))
 
 -- The box of what is written accepts every coordinate of the geometry that is not NaN.
-pub accepts-every-written : (orders : Orders) (d : ℕ) (g : Geometry) → Writable orders d g → All (AcceptsCoordinate (boxFrom (encode orders d g))) (coordinates g)
+pub accepts-every-written : (orders : Orders) (d : ℕ) (g : Geometry) → Writable d g → All (AcceptsCoordinate (boxFrom (encode orders d g))) (coordinates g)
 accepts-every-written orders d g w = accepts-every-coordinate (encode orders d g) (asSpelled d g) [] (there-and-back orders d g w)

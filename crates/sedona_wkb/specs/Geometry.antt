@@ -162,10 +162,10 @@ unfoldable mutual
   encodeAll orders d k nil = []
   encodeAll orders d k (cons g gs) = encode (inPart orders k) d g ++ encodeAll orders d (suc k) gs
 
--- A geometry that can be written and read: in dimensions that there are, of coordinates that have these, in at most 64 KiB with
--- its collections at most 32 deep.
-pub record Writable (orders : Orders) (d : ℕ) (g : Geometry) : Type 0 where
+-- A geometry that can be written and read: in dimensions that there are, of coordinates that have these, in at most 64 KiB (in one
+-- byte order, and so in any) with its collections at most 32 deep.
+pub record Writable (d : ℕ) (g : Geometry) : Type 0 where
   pub dims : d < 4
   pub coordinates : All (OfDims d) (coordinates g)
-  pub length : length (encode orders d g) ≤ 65536
+  pub length : length (encode (λ place. true) d g) ≤ 65536
   pub depth : depth g ≤ 32

@@ -37,17 +37,6 @@ returns c =
 pub enter-spec : {M : Type 1} → statement M
 enter-spec =
     tie.close
-    (tie.spec
-    (λ c κs. tt)
-    (λ c. search needs)
-    (λ c. search needs)
-    (λ c κs. tt)
-    add-at-m
-    merge-where-requires
-    (λ c κs. tt)
-    merge-where-requires-2
-    (λ c κs. search needs)
-    (λ c κs. tt)
-    (λ c κs. search needs)
-    (λ c κs. tt)
+    (tie.spec (λ c κs. tt) (λ c. search needs) (λ c. search needs) (λ c κs. tt) add-at-m merge-where-requires
+    (λ c κs. tt) merge-where-requires-2 (λ c κs. search needs) (λ c κs. tt) (λ c κs. search needs) (λ c κs. tt)
     returns)

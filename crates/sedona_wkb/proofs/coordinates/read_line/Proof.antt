@@ -62,18 +62,5 @@ returns-3 c =
 pub read-line-spec : {M : Type 1} → statement M
 read-line-spec =
     tie.close
-    (tie.spec
-    (λ c κs. tt)
-    returns
-    (λ c κs. count-is c)
-    (λ c. search needs)
-    (λ c κs. tt)
-    mul-length
-    add-is-short
-    (λ c κs. tt)
-    returns-2
-    add-enter-all
-    enter-all-requires
-    add-t8
-    add-t12
-    returns-3)
+    (tie.spec (λ c κs. tt) returns (λ c κs. count-is c) (λ c. search needs) (λ c κs. tt) mul-length add-is-short
+    (λ c κs. tt) returns-2 add-enter-all enter-all-requires add-t8 add-t12 returns-3)

@@ -59,19 +59,6 @@ returns-3 c = c .before .loop .inv ∙ no-turn _ _ _ _ (c .loop-test .left)
 pub read-many-spec : {M : Type 1} → statement M
 read-many-spec =
     tie.close
-    (tie.spec
-    Inv-loop
-    μ-loop
-    (λ c κs. tt)
-    returns
-    word-at-requires
-    add-end
-    loop-holds
-    (λ c κs. tt)
-    (λ c. search needs)
-    (λ c. search needs)
-    returns-2
-    (λ c. search needs)
-    (λ c. search needs)
-    loop-again
+    (tie.spec Inv-loop μ-loop (λ c κs. tt) returns word-at-requires add-end loop-holds (λ c κs. tt)
+    (λ c. search needs) (λ c. search needs) returns-2 (λ c. search needs) (λ c. search needs) loop-again
     returns-3)

@@ -73,17 +73,5 @@ returns-5 c =
 pub read-head-spec : {M : Type 1} → statement M
 read-head-spec =
     tie.close
-    (tie.spec
-    (λ c κs. tt)
-    returns
-    shared-slice-read-order
-    returns-2
-    add-is-short
-    (λ c κs. tt)
-    returns-3
-    add-word-at
-    word-at-requires
-    (λ c κs. tt)
-    add-t15
-    returns-4
-    returns-5)
+    (tie.spec (λ c κs. tt) returns shared-slice-read-order returns-2 add-is-short (λ c κs. tt) returns-3
+    add-word-at word-at-requires (λ c κs. tt) add-t15 returns-4 returns-5)
