@@ -1,4 +1,5 @@
-//! Rows of well-known binary: the box of a geometry, timed per coordinate. Each x, y, z or m is one.
+//! Rows of well-known binary: the box of a geometry, timed per coordinate, which is x and y, with z and
+//! m where the type has them.
 
 use crate::draws::Draws;
 use crate::layout::Ends;
@@ -17,12 +18,12 @@ const ZM: u32 = 3000;
 
 pub fn rows(bench: &Bench) {
     for (which, order) in [("low", LOW_FIRST), ("high", HIGH_FIRST)] {
-        let line = Geometry::new(order).list(LINE_STRING, 4000).drawn(8000);
+        let line = Geometry::new(order).list(LINE_STRING, 4000).drawn(4000, 2);
         let what = format!("a LineString of 4000 points, {which} byte first");
         time(bench, &what, line);
     }
     let new = || Geometry::new(LOW_FIRST);
-    let deep = new().list(ZM + LINE_STRING, 2000).drawn(8000);
+    let deep = new().list(ZM + LINE_STRING, 2000).drawn(2000, 4);
     time(bench, "a LineString ZM of 2000 points", deep);
     let many = new().list(MULTI_POINT, 3000).points(3000);
     time(bench, "a MultiPoint of 3000 points", many);
@@ -80,14 +81,15 @@ impl Geometry {
 
     /// Points with heads of their own.
     fn points(self, count: usize) -> Geometry {
-        (0..count).fold(self, |points, _| points.head(POINT).drawn(2))
+        (0..count).fold(self, |points, _| points.head(POINT).drawn(1, 2))
     }
 
-    fn drawn(mut self, coordinates: usize) -> Geometry {
-        self.coordinates += coordinates;
-        (0..coordinates).fold(self, |mut drawn, _| {
-            let coordinate = drawn.draws.between(-180.0, 180.0);
-            drawn.number(coordinate.to_be_bytes())
+    /// Coordinates of so many numbers each.
+    fn drawn(mut self, count: usize, width: usize) -> Geometry {
+        self.coordinates += count;
+        (0..count * width).fold(self, |mut drawn, _| {
+            let number = drawn.draws.between(-180.0, 180.0);
+            drawn.number(number.to_be_bytes())
         })
     }
 

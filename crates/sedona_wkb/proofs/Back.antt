@@ -1,9 +1,9 @@
 -- Reading what was written gives it back: numbers, coordinates, and parts behind a count. Assumes nothing.
-use mathlib.Core.Path.{_≡_, refl, ap, _∙_}
+use mathlib.Core.Path.{_≡_, refl}
 use mathlib.Core.Bool.{Bool, true, false}
-use mathlib.Core.List.{List, [], _∷_, _++_, append-assoc}
+use mathlib.Core.List.{List, [], _∷_, _++_, append-assoc, flatMap}
 use mathlib.Core.Option.{Option, none, some}
-use Prim.Native.Nat.{ℕ, zero, suc, _+_, _^_, _<_, _≤_}
+use Prim.Native.Nat.{ℕ, suc, _+_, _^_, _<_, _≤_}
 use native.Mathlib.Omega.{arith}
 use lib.Dec.{T}
 use lib.Ieee.{Float, binary64, toBits, fits}
@@ -11,8 +11,8 @@ use lib.Ieee.Bits.{ofBits-toBits, toBits-lt}
 use lib.ListN.{length, length-append}
 use lib.Seq.{take-at, drop-at}
 use borrow.Author.Tests.{le-ltb}
-use Rattle.sedona_wkb.specs.Geometry.{concat, DoubleWhere, OfDims, All, encodeNumber, encodeDouble, encodeWhere, encodeCoordinate, encodeFrom, encodeCounted}
-use Rattle.sedona_wkb.specs.Reading.{Reader, found, andThen, number, repeat}
+use Rattle.sedona_wkb.specs.Geometry.{DoubleWhere, OfDims, All, encodeNumber, encodeDouble, encodeWhere, encodeCoordinate, encodeFrom, encodeCounted}
+use Rattle.sedona_wkb.specs.Reading.{Reader, found, andThen, number, several}
 use Rattle.sedona_wkb.specs.Wkb.{Coordinate, hasZ, hasM, readDouble, readWhere, readCoordinate, counted, readPoint}
 use Rattle.sedona_wkb.specs.declared.heads.Head.{Head}
 use Rattle.sedona_wkb.proofs.Bytes.{length-ordered, value-ordered}
@@ -76,15 +76,15 @@ abbrev pub Back : {A : Type 0} → ℕ → Reader (List Coordinate) → (ℕ →
 Back {A} d p f g = (k : ℕ) (x : A) → All (OfDims d) (g x) → length (f k x) ≤ 65536 → (rest : List ℕ) → p (f k x ++ rest) ≡ found (g x) rest
 
 module _ {A : Type 0} (d : ℕ) (p : Reader (List Coordinate)) (f : ℕ → A → List ℕ) (g : A → List Coordinate) (b : Back d p f g) where
-  repeat-back : (k : ℕ) (xs : List A) → All (OfDims d) (concat g xs) → length (encodeFrom f k xs) ≤ 65536 → (rest : List ℕ) → repeat (length xs) p (encodeFrom f k xs ++ rest) ≡ found (concat g xs) rest
-  unfolding repeat encodeFrom concat andThen
-  repeat-back k [] h n rest = refl
-  repeat-back k (x ∷ xs) h n rest =
+  several-back : (k : ℕ) (xs : List A) → All (OfDims d) (flatMap g xs) → length (encodeFrom f k xs) ≤ 65536 → (rest : List ℕ) → several (length xs) p (encodeFrom f k xs ++ rest) ≡ found (flatMap g xs) rest
+  unfolding several encodeFrom flatMap andThen
+  several-back k [] h n rest = refl
+  several-back k (x ∷ xs) h n rest =
       let m : length (f k x) + length (encodeFrom f (suc k) xs) ≤ 65536 = rw (length-append (f k x) (encodeFrom f (suc k) xs)) at n in
       rw (
         append-assoc (f k x) (encodeFrom f (suc k) xs) rest,
-        b k x (all-front (OfDims d) (g x) (concat g xs) h) (omega arith) (encodeFrom f (suc k) xs ++ rest),
-        repeat-back (suc k) xs (all-behind (OfDims d) (g x) (concat g xs) h) (omega arith) rest,
+        b k x (all-front (OfDims d) (g x) (flatMap g xs) h) (omega arith) (encodeFrom f (suc k) xs ++ rest),
+        several-back (suc k) xs (all-behind (OfDims d) (g x) (flatMap g xs) h) (omega arith) rest,
       )
 
   -- Parts that are not empty are no more than their bytes.
@@ -93,10 +93,10 @@ module _ {A : Type 0} (d : ℕ) (p : Reader (List Coordinate)) (f : ℕ → A �
   count-below filled k [] = omega arith
   count-below filled k (x ∷ xs) = rw (length-append (f k x) (encodeFrom f (suc k) xs)) (omega (arith, filled k x, count-below filled (suc k) xs))
 
-  pub counted-back : ((k : ℕ) (x : A) → 0 < length (f k x)) → (h : Head) → Back d (counted h p) (λ k. encodeCounted (h .low) f) (concat g)
+  pub counted-back : ((k : ℕ) (x : A) → 0 < length (f k x)) → (h : Head) → Back d (counted h p) (λ k. encodeCounted (h .low) f) (flatMap g)
   unfolding counted encodeCounted andThen
   counted-back filled h k xs c n rest =
       let count = encodeNumber (h .low) 4 (length xs) in
       let m : length count + length (encodeFrom f 0 xs) ≤ 65536 = rw (length-append count (encodeFrom f 0 xs)) at n in
       rw (append-assoc count (encodeFrom f 0 xs) rest, number-back (h .low) 4 (length xs) (encodeFrom f 0 xs ++ rest) (omega (arith, count-below filled 0 xs)))
-      (repeat-back 0 xs c (omega arith) rest)
+      (several-back 0 xs c (omega arith) rest)

@@ -1,7 +1,7 @@
 -- Numbers and doubles by their bytes. Assumes nothing.
 use mathlib.Core.Path.{_≡_, refl, sym, ap, _∙_}
 use mathlib.Core.Bool.{Bool, true, false}
-use mathlib.Core.List.{List, [], _∷_, _++_, reverse, reverse-reverse}
+use mathlib.Core.List.{List, [], _∷_, reverse, reverse-reverse}
 use Prim.Native.Nat.{ℕ, zero, suc, _+_, _*_, _%_, _/_, _^_, _<_, _≤_}
 use native.Mathlib.Nat.{add-zero, pow-succ'}
 use native.Mathlib.Omega.{arith}
@@ -11,7 +11,8 @@ use lib.ListN.{length, take, drop, getD, length-drop, length-reverse}
 use lib.Seq.{getD-drop, drop-drop, take-add, length-take-le}
 use borrow.Author.Tests.{lt-ltb}
 use Rattle.sedona_wkb.specs.Geometry.{All}
-use Rattle.sedona_wkb.specs.Numbers.{valueOf, bytesOf, ordered, numberAt}
+use Rattle.sedona_wkb.specs.Numbers.{valueOf, bytesOf, ordered}
+use Rattle.sedona_wkb.specs.Places.{numberAt}
 
 -- ---- four bytes, and eight
 

@@ -5,8 +5,7 @@ use mathlib.Core.List.{List, [], _∷_}
 use mathlib.Core.Logic.{_⊎_, inl, inr}
 use mathlib.Core.Option.{Option, none, some}
 use Prim.Native.Nat.{ℕ}
-use lib.Dec.{T}
-use lib.Ieee.{Float, nan, binary64, fits, isNan, lt, sub, eq}
+use lib.Ieee.{Float, nan, isNan, lt, sub, eq}
 use Rattle.sedona_geometry.specs.Float.{minNum, maxNum}
 use Rattle.sedona_geometry.specs.Interval as interval
 use Rattle.sedona_geometry.specs.Interval.{Doubles, Accepts, mergeValue}
@@ -16,7 +15,7 @@ use Rattle.sedona_geometry.specs.declared.interval.Interval.{Interval}
 use Rattle.sedona_geometry.proofs.Accepts.{merge-value-keeps, merge-value-accepts, merge-value-doubles, accepts-low-to-high}
 use Rattle.sedona_geometry.proofs.Order.{Number, number-of-test, nan-or-number}
 use Rattle.sedona_geometry.proofs.Wrapping.{accepts-of-plain, infinite-doubles, empty-not-wrapped, low-to-high-plain}
-use Rattle.sedona_wkb.specs.Bounds.{knownWhere, boxOf, answer, wkbBounds, boxFrom, AcceptsWhere, AcceptsCoordinate}
+use Rattle.sedona_wkb.specs.Bounds.{knownWhere, boxOf, answer, boxFrom, AcceptsWhere, AcceptsCoordinate}
 use Rattle.sedona_wkb.specs.Extents.{empty, mergeWhere, enter, enterAll}
 use Rattle.sedona_wkb.specs.Geometry.{DoubleWhere, OfDims, All}
 use Rattle.sedona_wkb.specs.Reading.{Reading, refused, found}

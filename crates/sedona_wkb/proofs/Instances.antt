@@ -1,16 +1,15 @@
 -- Geometries that meet every hypothesis of the theorems, and bytes. Assumes nothing.
 use mathlib.Core.Path.{_≡_, refl}
 use mathlib.Core.Bool.{true, false, not}
-use mathlib.Core.List.{List, [], _∷_}
+use mathlib.Core.List.{[], _∷_, flatMap}
 use mathlib.Core.Option.{none, some}
-use Prim.Native.Nat.{ℕ, _≤_}
+use Prim.Native.Nat.{ℕ}
 use native.Mathlib.Omega.{arith}
 use lib.Dec.{T}
 use lib.Ieee.{Float, fin, binary64, fits, ofBits, ofFields, odd}
 use lib.IntN.{pos}
-use lib.ListN.{length}
 use Rattle.sedona_wkb.specs.Bounds.{wkbBounds, boxFrom, AcceptsCoordinate}
-use Rattle.sedona_wkb.specs.Geometry.{point, lineString, polygon, Geometry, one, many, collection, nil, cons, concat, coordinatesOf, coordinates, depth, count, kindOfShape, kindOf, OfDims, All, Orders, encodeNumber, encodeDouble, encodeWhere, encodeCoordinate, encodeFrom, encodeCounted, encodeContent, encodeHead, encodeOne, encode, Writable}
+use Rattle.sedona_wkb.specs.Geometry.{point, lineString, polygon, Geometry, one, many, collection, nil, cons, coordinatesOf, coordinates, depth, kindOfShape, kindOf, OfDims, All, Orders, encodeNumber, encodeDouble, encodeWhere, encodeCoordinate, encodeFrom, encodeCounted, encodeContent, encodeHead, encodeOne, encode, Writable}
 use Rattle.sedona_wkb.specs.Numbers.{valueOf, bytesOf, ordered}
 use Rattle.sedona_wkb.specs.Reading.{found, andThen, number}
 use Rattle.sedona_wkb.specs.Wkb.{Coordinate, isType, tested, readHead, readDouble, readWhere, readCoordinate, readPoint, readOne, byKind, readBody, ended, readRest, spelled}
@@ -47,13 +46,13 @@ mixed =
     (cons (collection (cons (one lineString (xy 13 15 ∷ xy 17 19 ∷ [])) nil)) nil)))
 
 mixed-writable : Writable 0 mixed
-unfolding coordinates coordinatesOf concat fits depth encode encodeOne encodeHead encodeNumber ordered bytesOf encodeContent encodeCoordinate encodeDouble encodeWhere encodeCounted encodeFrom
+unfolding coordinates coordinatesOf flatMap fits depth encode encodeOne encodeHead encodeNumber ordered bytesOf encodeContent encodeCoordinate encodeDouble encodeWhere encodeCounted encodeFrom
 mixed-writable =
     record {
       dims = omega arith;
-      coordinates = (of-xy 1 3 tt tt, (of-xy 5 7 tt tt, (of-xy 9 11 tt tt, (of-xy 13 15 tt tt, (of-xy 17 19 tt tt, tt)))));
-      length = omega arith;
-      depth = omega arith;
+      each = (of-xy 1 3 tt tt, (of-xy 5 7 tt tt, (of-xy 9 11 tt tt, (of-xy 13 15 tt tt, (of-xy 17 19 tt tt, tt)))));
+      size = omega arith;
+      nesting = omega arith;
     }
 
 pub mixed-read : spelled (encode alternating 0 mixed) ≡ found (asSpelled 0 mixed) []
@@ -74,13 +73,13 @@ abbrev polygons : Geometry
 polygons = many polygon (((xyzm 1 3 5 7 ∷ xyzm 9 11 13 15 ∷ []) ∷ (xyzm 17 19 21 23 ∷ []) ∷ []) ∷ [])
 
 polygons-writable : Writable 3 polygons
-unfolding coordinates coordinatesOf concat fits depth encode encodeOne encodeHead encodeNumber ordered bytesOf encodeContent encodeCoordinate encodeDouble encodeWhere encodeCounted encodeFrom
+unfolding coordinates coordinatesOf flatMap fits depth encode encodeOne encodeHead encodeNumber ordered bytesOf encodeContent encodeCoordinate encodeDouble encodeWhere encodeCounted encodeFrom
 polygons-writable =
     record {
       dims = omega arith;
-      coordinates = (record { x = tt; y = tt; z = tt; m = tt }, (record { x = tt; y = tt; z = tt; m = tt }, (record { x = tt; y = tt; z = tt; m = tt }, tt)));
-      length = omega arith;
-      depth = omega arith;
+      each = (record { x = tt; y = tt; z = tt; m = tt }, (record { x = tt; y = tt; z = tt; m = tt }, (record { x = tt; y = tt; z = tt; m = tt }, tt)));
+      size = omega arith;
+      nesting = omega arith;
     }
 
 pub polygons-read : spelled (encode highFirst 3 polygons) ≡ found (asSpelled 3 polygons) []

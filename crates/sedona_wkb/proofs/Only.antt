@@ -1,17 +1,17 @@
 -- What holds of all that a reader finds: of heads, and of coordinates. Assumes nothing.
 use mathlib.Core.Path.{_≡_, refl, subst}
-use mathlib.Core.Bool.{Bool, true, false, cond, _&&_, _||_}
+use mathlib.Core.Bool.{Bool, true, false, cond, _&&_}
 use mathlib.Core.List.{List, [], _∷_, _++_}
 use Prim.Native.Nat.{ℕ, zero, suc, _+_, _<_}
 use native.Mathlib.Omega.{arith}
 use lib.Dec.{T, eqb, ltb, leb}
-use lib.Ieee.{Float, binary64, fits, ofBits}
+use lib.Ieee.{Float, binary64, fits}
 use lib.Ieee.Bits.{ofBits-fits}
 use lib.ListN.{length}
 use borrow.Author.Tests.{eqb-true, ltb-true, leb-true}
 use Rattle.sedona_wkb.specs.Error as error
 use Rattle.sedona_wkb.specs.Geometry.{All, DoubleWhere, OfDims}
-use Rattle.sedona_wkb.specs.Reading.{Reading, Reader, refused, found, andThen, give, refuse, number, repeat}
+use Rattle.sedona_wkb.specs.Reading.{Reading, Reader, refused, found, andThen, refuse, number, several}
 use Rattle.sedona_wkb.specs.Wkb.{Coordinate, headOf, hasZ, hasM, isType, isPart, tested, readHead, readPartHead, readDouble, readWhere, readCoordinate, counted, readPoint, readLine, readPolygon, readOne, within, readMember, readMany, byKind, readBody, Spelled, ended, readRest, spelled}
 use Rattle.sedona_wkb.specs.declared.heads.Head.{Head}
 
@@ -23,9 +23,9 @@ Only P (found a t) = P a
 abbrev Any : {A : Type 0} → A → Type 0
 Any a = Unit {0}
 
-any : {A : Type 0} (r : Reading A) → Only Any r
-any (refused n) = tt
-any (found a t) = tt
+anything : {A : Type 0} (r : Reading A) → Only Any r
+anything (refused n) = tt
+anything (found a t) = tt
 
 only-then : {A B : Type 0} (P : A → Type 0) (Q : B → Type 0) (r : Reading A) (next : A → Reader B)
     → Only P r → ((a : A) (t : List ℕ) → P a → Only Q (next a t)) → Only Q (andThen r next)
@@ -54,9 +54,9 @@ tested-only test h t false e = tt
 head-only : (s : List ℕ) → Only (Passes isType) (readHead s)
 unfolding readHead
 head-only s =
-    only-then Any (Passes isType) (number true 1 s) _ (any (number true 1 s)) (λ order t a.
+    only-then Any (Passes isType) (number true 1 s) _ (anything (number true 1 s)) (λ order t a.
     only-either (Passes isType) (ltb 1 order) (refuse error.wkbCode) _ (λ u. tt) (λ u.
-    only-then Any (Passes isType) (number (eqb order 1) 4 u) _ (any (number (eqb order 1) 4 u)) (λ code v b.
+    only-then Any (Passes isType) (number (eqb order 1) 4 u) _ (anything (number (eqb order 1) 4 u)) (λ code v b.
     tested-only isType (headOf (eqb order 1) code) v _ refl)) t)
 
 -- A kind that there is, and dimensions that there are.
@@ -77,7 +77,7 @@ head-known s h t e = let k = known h (rw e at (head-only s)) in (k .kind, k .dim
 -- A part has its parent's dimensions.
 part-head-only : (parent : Head) (s : List ℕ) → Only (Passes (isPart parent)) (readPartHead parent s)
 unfolding readPartHead
-part-head-only parent s = only-then Any (Passes (isPart parent)) (readHead s) _ (any (readHead s)) (λ h t a. tested-only (isPart parent) h t _ refl)
+part-head-only parent s = only-then Any (Passes (isPart parent)) (readHead s) _ (anything (readHead s)) (λ h t a. tested-only (isPart parent) h t _ refl)
 
 same-dims : (parent h : Head) → Passes (isPart parent) h → h .dims ≡ parent .dims
 unfolding isPart
@@ -90,7 +90,7 @@ IsDouble v = T (fits binary64 v)
 
 double-only : (low : Bool) (s : List ℕ) → Only IsDouble (readDouble low s)
 unfolding readDouble
-double-only low s = only-then Any IsDouble (number low 8 s) _ (any (number low 8 s)) (λ bits t a. ofBits-fits binary64 bits)
+double-only low s = only-then Any IsDouble (number low 8 s) _ (anything (number low 8 s)) (λ bits t a. ofBits-fits binary64 bits)
 
 where-only : (has low : Bool) (s : List ℕ) → Only (DoubleWhere has) (readWhere has low s)
 unfolding readWhere
@@ -118,16 +118,16 @@ abbrev OnlyOf : ℕ → Reader (List Coordinate) → Type 0
 OnlyOf d p = (s : List ℕ) → Only (All (OfDims d)) (p s)
 
 module _ (d : ℕ) where
-  repeat-only : (p : Reader (List Coordinate)) → OnlyOf d p → (n : ℕ) → OnlyOf d (repeat n p)
-  unfolding repeat
-  repeat-only p f zero s = tt
-  repeat-only p f (suc n) s =
+  several-only : (p : Reader (List Coordinate)) → OnlyOf d p → (n : ℕ) → OnlyOf d (several n p)
+  unfolding several
+  several-only p f zero s = tt
+  several-only p f (suc n) s =
       only-then (All (OfDims d)) (All (OfDims d)) (p s) _ (f s) (λ xs t h.
-      only-then (All (OfDims d)) (All (OfDims d)) (repeat n p t) _ (repeat-only p f n t) (λ ys u g. all-append (OfDims d) xs ys h g))
+      only-then (All (OfDims d)) (All (OfDims d)) (several n p t) _ (several-only p f n t) (λ ys u g. all-append (OfDims d) xs ys h g))
 
   counted-only : (h : Head) (p : Reader (List Coordinate)) → OnlyOf d p → OnlyOf d (counted h p)
   unfolding counted
-  counted-only h p f s = only-then Any (All (OfDims d)) (number (h .low) 4 s) _ (any (number (h .low) 4 s)) (λ n t a. repeat-only p f n t)
+  counted-only h p f s = only-then Any (All (OfDims d)) (number (h .low) 4 s) _ (anything (number (h .low) 4 s)) (λ n t a. several-only p f n t)
 
 point-only : (h : Head) → OnlyOf (h .dims) (readPoint h)
 unfolding readPoint
@@ -184,4 +184,4 @@ unless false r h = h
 pub spelled-only : (s : List ℕ) → Only SpelledWell (spelled s)
 unfolding spelled
 spelled-only s =
-    unless (ltb 65536 (length s)) (andThen (readHead s) readRest) (only-then Any SpelledWell (readHead s) readRest (any (readHead s)) (λ h t a. rest-only h t))
+    unless (ltb 65536 (length s)) (andThen (readHead s) readRest) (only-then Any SpelledWell (readHead s) readRest (anything (readHead s)) (λ h t a. rest-only h t))

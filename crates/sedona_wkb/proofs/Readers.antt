@@ -13,10 +13,11 @@ use lib.Seq.{drop-cons, drop-drop, drop-length}
 use borrow.Author.Tests.{lt-ltb, le-ltb, ltb-true, ltb-false}
 use Rattle.sedona_wkb.specs.Error as error
 use Rattle.sedona_wkb.specs.Extents.{enter, enterAll}
-use Rattle.sedona_wkb.specs.Numbers.{valueOf, ordered, numberAt, doubleAt}
+use Rattle.sedona_wkb.specs.Numbers.{valueOf, ordered}
 use Rattle.sedona_wkb.specs.Outcome.{entered, reached}
-use Rattle.sedona_wkb.specs.Reading.{Reading, Reader, refused, found, andThen, _>>=_, give, number, repeat}
-use Rattle.sedona_wkb.specs.Wkb.{Coordinate, headOf, isType, isPart, tested, readHead, readPartHead, hasZ, hasM, readDouble, readWhere, readCoordinate, doubleWhere, widthWhere, width, coordinateAt, coordinatesAt, counted, readPoint, readLine, readOne, within, readMany, byKind, readBody, readCollection}
+use Rattle.sedona_wkb.specs.Places.{numberAt, doubleAt, doubleWhere, widthWhere, width, coordinateAt, coordinatesAt}
+use Rattle.sedona_wkb.specs.Reading.{Reading, Reader, refused, found, andThen, _>>=_, give, number, several}
+use Rattle.sedona_wkb.specs.Wkb.{Coordinate, headOf, isType, isPart, tested, readHead, readPartHead, hasZ, hasM, readDouble, readWhere, readCoordinate, counted, readPoint, readLine, readOne, within, readMany, byKind, readBody, readCollection}
 use Rattle.sedona_wkb.specs.declared.coordinates.Extents.{Extents}
 use Rattle.sedona_wkb.specs.declared.coordinates.Reached.{Reached}
 use Rattle.sedona_wkb.specs.declared.coordinates.Reached.the-variants.{At, Refused}
@@ -89,14 +90,14 @@ module _ (h : Head) (s : List ℕ) where
   unfolding readPoint
   point-taken at = takes-made s at _ (readCoordinate h) (coordinateAt h s at) _ (coordinate-taken at)
 
-  points-taken : (n at : ℕ) → Takes s at (n * width (h .dims)) (repeat n (readPoint h)) (coordinatesAt h s at n)
-  unfolding repeat coordinatesAt
+  points-taken : (n at : ℕ) → Takes s at (n * width (h .dims)) (several n (readPoint h)) (coordinatesAt h s at n)
+  unfolding several coordinatesAt
   points-taken zero at = rw (zero-mul (width (h .dims))) (takes-none s at [])
   points-taken (suc n) at =
       let w = width (h .dims) in
       let m : suc n * w ≡ w + n * w = omega (arith, suc-mul n w) in
       rw m (takes-then s at w (n * w) (readPoint h) _ _ _ (point-taken at)
-      (takes-made s (at + w) (n * w) (repeat n (readPoint h)) _ (λ ys. coordinateAt h s at ∷ ys) (points-taken n (at + w))))
+      (takes-made s (at + w) (n * w) (several n (readPoint h)) _ (λ ys. coordinateAt h s at ∷ ys) (points-taken n (at + w))))
 
   -- Behind the end there is as much as at the end: nothing.
   short-at : (at : ℕ) (t : Bool) → ltb (length s) at ≡ t → length s < at + width (h .dims) → readPoint h (drop at s) ≡ refused error.wkbLength
@@ -130,7 +131,7 @@ module _ (h : Head) (s : List ℕ) (at : ℕ) (e : Extents) where
 -- ---- counts, and as many parts
 
 module _ (h : Head) (p : Reader (List Coordinate)) (s : List ℕ) (at : ℕ) (e : Extents) where
-  pub counted-there : at + 4 ≤ length s → entered e (counted h p (drop at s)) ≡ entered e (repeat (numberAt (h .low) 4 s at) p (drop (at + 4) s))
+  pub counted-there : at + 4 ≤ length s → entered e (counted h p (drop at s)) ≡ entered e (several (numberAt (h .low) 4 s at) p (drop (at + 4) s))
   unfolding counted andThen
   counted-there g = rw (number-there s at (h .low) 4 g)
 
@@ -161,36 +162,36 @@ enter-behind e xs (found ys t) = ap (λ (x : Extents). found x t) (enter-append 
 
 module _ (p : Reader (List Coordinate)) (n : ℕ) (e : Extents) where
   part-found : (r : Reading (List Coordinate)) (f : Extents) (t : List ℕ) → entered e r ≡ found f t
-      → entered e (andThen r (λ xs. λ u. andThen (repeat n p u) (λ ys. give (xs ++ ys)))) ≡ entered f (repeat n p t)
+      → entered e (andThen r (λ xs. λ u. andThen (several n p u) (λ ys. give (xs ++ ys)))) ≡ entered f (several n p t)
   unfolding entered andThen
   part-found (refused k) f t q = absurd (let z : _≡_ {A = ℕ} 0 1 = cc in omega arith)
   part-found (found xs u) f t q =
       let a : enterAll e xs ≡ f = cc in
       let b : u ≡ t = cc in
-      enter-behind e xs (repeat n p u) ∙ rw (a, b)
+      enter-behind e xs (several n p u) ∙ rw (a, b)
 
   part-refused : (r : Reading (List Coordinate)) (k : ℕ) → entered e r ≡ refused k
-      → entered e (andThen r (λ xs. λ u. andThen (repeat n p u) (λ ys. give (xs ++ ys)))) ≡ refused k
+      → entered e (andThen r (λ xs. λ u. andThen (several n p u) (λ ys. give (xs ++ ys)))) ≡ refused k
   unfolding entered andThen
   part-refused (refused j) k q = q
   part-refused (found xs u) k q = absurd (let z : _≡_ {A = ℕ} 0 1 = cc in omega arith)
 
 -- A turn of a loop over parts: n are left, and the code reads the one at a place.
 module _ (s : List ℕ) (p : Reader (List Coordinate)) (at : ℕ) (e : Extents) (r : Reached) (q : entered e (p (drop at s)) ≡ reached s r) where
-  pub turn : (n : ℕ) → 0 < n → (f : Extents) (to : ℕ) → r ≡ At f to → entered e (repeat n p (drop at s)) ≡ entered f (repeat (n - 1) p (drop to s))
-  unfolding repeat reached
+  pub turn : (n : ℕ) → 0 < n → (f : Extents) (to : ℕ) → r ≡ At f to → entered e (several n p (drop at s)) ≡ entered f (several (n - 1) p (drop to s))
+  unfolding several reached
   turn zero h f to g = absurd (omega arith)
   turn (suc n) h f to g =
       let m : suc n - 1 ≡ n = omega arith in
       rw m (part-found p n e (p (drop at s)) f (drop to s) (q ∙ ap (reached s) g))
 
-  pub turn-refused : (n : ℕ) → 0 < n → (k : ℕ) → r ≡ Refused k → entered e (repeat n p (drop at s)) ≡ reached s r
-  unfolding repeat reached
+  pub turn-refused : (n : ℕ) → 0 < n → (k : ℕ) → r ≡ Refused k → entered e (several n p (drop at s)) ≡ reached s r
+  unfolding several reached
   turn-refused zero h k g = absurd (omega arith)
   turn-refused (suc n) h k g = part-refused p n e (p (drop at s)) k (q ∙ ap (reached s) g) ∙ sym (ap (reached s) g)
 
-pub no-turn : (s : List ℕ) (p : Reader (List Coordinate)) (e : Extents) (n : ℕ) → n ≤ 0 → entered e (repeat n p s) ≡ found e s
-unfolding repeat entered enterAll
+pub no-turn : (s : List ℕ) (p : Reader (List Coordinate)) (e : Extents) (n : ℕ) → n ≤ 0 → entered e (several n p s) ≡ found e s
+unfolding several entered enterAll
 no-turn s p e zero h = refl
 no-turn s p e (suc n) h = absurd (omega arith)
 

@@ -1,15 +1,15 @@
 -- There and back: reading what `encode` writes gives the geometry's coordinates and type, whatever the byte orders. Assumes nothing.
 use mathlib.Core.Path.{_≡_, refl, sym, ap, _∙_}
 use mathlib.Core.Bool.{Bool, true, false}
-use mathlib.Core.List.{List, [], _∷_, _++_, append-assoc, append-nil}
+use mathlib.Core.List.{List, [], _∷_, _++_, append-assoc, append-nil, flatMap}
 use Prim.Native.Nat.{ℕ, suc, _+_, _*_, _%_, _/_, _-_, _<_, _≤_}
 use native.Mathlib.Nat.{le-max-left, le-max-right}
 use native.Mathlib.Omega.{arith}
 use lib.ListN.{length, length-append}
 use borrow.Author.Tests.{eq-eqb, lt-ltb, le-leb}
 use Rattle.sedona_wkb.specs.Bounds.{answer, wkbBounds, boxFrom, AcceptsCoordinate}
-use Rattle.sedona_wkb.specs.Geometry.{Shape, point, lineString, polygon, Content, Geometry, one, many, collection, Geometries, nil, cons, kindOfShape, kindOf, concat, coordinatesOf, coordinates, allCoordinates, depth, deepest, count, OfDims, All, Orders, inPart, encodeNumber, encodeCoordinate, encodeCounted, encodeLine, encodeContent, encodeHead, encodeOne, encode, encodeAll, Writable}
-use Rattle.sedona_wkb.specs.Reading.{Reader, found, andThen, number, repeat}
+use Rattle.sedona_wkb.specs.Geometry.{Shape, point, lineString, polygon, Content, Geometry, one, many, collection, Geometries, nil, cons, kindOfShape, kindOf, coordinatesOf, coordinates, allCoordinates, depth, deepest, howMany, OfDims, All, Orders, inPart, encodeNumber, encodeCoordinate, encodeCounted, encodeLine, encodeContent, encodeHead, encodeOne, encode, encodeAll, Writable}
+use Rattle.sedona_wkb.specs.Reading.{Reader, found, andThen, number, several}
 use Rattle.sedona_wkb.specs.Wkb.{Coordinate, headOf, isType, isPart, tested, readHead, readPartHead, counted, readPoint, readLine, readOne, within, readMember, readBody, readPart, Spelled, ended, readRest, spelled}
 use Rattle.sedona_wkb.specs.declared.heads.Head.{Head}
 use Rattle.sedona_wkb.proofs.Answers.{head-found}
@@ -47,8 +47,8 @@ module _ (kind d : ℕ) (least : 0 < kind) (most : kind ≤ 7) (dims : d < 4) (r
 
 -- ---- points, lines, polygons
 
-single : (cs : List Coordinate) → concat (λ c. c ∷ []) cs ≡ cs
-unfolding concat
+single : (cs : List Coordinate) → flatMap (λ c. c ∷ []) cs ≡ cs
+unfolding flatMap
 single [] = refl
 single (c ∷ cs) = ap {B = List Coordinate} (λ r. c ∷ r) (single cs)
 
@@ -61,14 +61,14 @@ unfolding encodeCounted
 filled-line low cs = rw (length-append, length-number) (omega arith)
 
 module _ (h : Head) where
-  points-back : Back (h .dims) (readLine h) (λ k. encodeLine (h .low)) (concat (λ c. c ∷ []))
+  points-back : Back (h .dims) (readLine h) (λ k. encodeLine (h .low)) (flatMap (λ c. c ∷ []))
   points-back =
       counted-back (h .dims) (readPoint h) (λ k. encodeCoordinate (h .low)) (λ c. c ∷ []) (λ k c d n rest. point-back h c rest (d .0)) (λ k. filled-coordinate (h .low)) h
 
   line-back : Back (h .dims) (readLine h) (λ k. encodeLine (h .low)) (λ cs. cs)
   line-back k cs d n rest = points-back k cs (rw (single cs) d) n rest ∙ ap (λ (xs : List Coordinate). found xs rest) (single cs)
 
-  polygon-back : Back (h .dims) (counted h (readLine h)) (λ k. encodeCounted (h .low) (λ j. encodeLine (h .low))) (concat (λ ring. ring))
+  polygon-back : Back (h .dims) (counted h (readLine h)) (λ k. encodeCounted (h .low) (λ j. encodeLine (h .low))) (flatMap (λ ring. ring))
   polygon-back = counted-back (h .dims) (readLine h) (λ k. encodeLine (h .low)) (λ ring. ring) line-back (λ k. filled-line (h .low)) h
 
 content-back : (low : Bool) (d : ℕ) (shape : Shape) → Back d (readOne (headFor low (kindOfShape shape) d)) (λ k. encodeContent low shape) (coordinatesOf shape)
@@ -113,7 +113,7 @@ module _ (orders : Orders) (d : ℕ) (dims : d < 4) (shape : Shape) where
   unfolding encodeOne encodeHead
   filled-member k c = rw (length-append) (omega arith)
 
-  many-back : Back d (counted (headFor (orders []) (3 + kindOfShape shape) d) (readMember (headFor (orders []) (3 + kindOfShape shape) d))) (λ j. encodeCounted (orders []) (λ k. encodeOne (orders (k ∷ [])) d shape)) (concat (coordinatesOf shape))
+  many-back : Back d (counted (headFor (orders []) (3 + kindOfShape shape) d) (readMember (headFor (orders []) (3 + kindOfShape shape) d))) (λ j. encodeCounted (orders []) (λ k. encodeOne (orders (k ∷ [])) d shape)) (flatMap (coordinatesOf shape))
   many-back = counted-back d _ (λ k. encodeOne (orders (k ∷ [])) d shape) (coordinatesOf shape) member-back filled-member (headFor (orders []) (3 + kindOfShape shape) d)
 
 -- ---- geometries
@@ -122,7 +122,7 @@ module _ (orders : Orders) (d : ℕ) (dims : d < 4) (shape : Shape) where
 unfoldable bodyBytes : Orders → ℕ → Geometry → List ℕ
 bodyBytes orders d (one shape c) = encodeContent (orders []) shape c
 bodyBytes orders d (many shape cs) = encodeCounted (orders []) (λ k. encodeOne (orders (k ∷ [])) d shape) cs
-bodyBytes orders d (collection gs) = encodeNumber (orders []) 4 (count gs) ++ encodeAll orders d 0 gs
+bodyBytes orders d (collection gs) = encodeNumber (orders []) 4 (howMany gs) ++ encodeAll orders d 0 gs
 
 encode-is : (orders : Orders) (d : ℕ) (g : Geometry) → encode orders d g ≡ encodeHead (orders []) (kindOf g) d ++ bodyBytes orders d g
 unfolding encode encodeOne bodyBytes kindOf
@@ -146,8 +146,8 @@ most-kind-of (one shape c) = omega (arith, most-kind shape)
 most-kind-of (many shape cs) = omega (arith, most-kind shape)
 most-kind-of (collection gs) = omega arith
 
-count-all : (orders : Orders) (d k : ℕ) (gs : Geometries) → count gs ≤ length (encodeAll orders d k gs)
-unfolding count encodeAll
+count-all : (orders : Orders) (d k : ℕ) (gs : Geometries) → howMany gs ≤ length (encodeAll orders d k gs)
+unfolding howMany encodeAll
 count-all orders d k nil = omega arith
 count-all orders d k (cons g gs) =
     rw (length-append (encode (inPart orders k) d g) (encodeAll orders d (suc k) gs)) (omega (arith, length-encode (inPart orders k) d g, count-all orders d (suc k) gs))
@@ -164,7 +164,7 @@ part-is-body orders d g lt low room rest =
 
 module _ (d : ℕ) (lt : d < 4) where
   mutual
-    unfolding bodyBytes kindOf coordinates depth count encodeAll repeat counted andThen
+    unfolding bodyBytes kindOf coordinates depth howMany encodeAll several counted andThen
 
     body-back : (orders : Orders) (g : Geometry) → All (OfDims d) (coordinates g) → length (bodyBytes orders d g) ≤ 65536 → (room : ℕ) → depth g ≤ room → (rest : List ℕ)
         → readBody room (headFor (orders []) (kindOf g) d) (bodyBytes orders d g ++ rest) ≡ found (coordinates g) rest
@@ -173,14 +173,14 @@ module _ (d : ℕ) (lt : d < 4) where
     body-back orders (many shape cs) h n room r rest =
         body-many (headFor (orders []) (3 + kindOfShape shape) d) _ (omega (arith, least-kind shape)) room (omega (arith, most-kind shape)) ∙ many-back orders d lt shape 0 cs h n rest
     body-back orders (collection gs) h n room r rest =
-        let front = encodeNumber (orders []) 4 (count gs) in
+        let front = encodeNumber (orders []) 4 (howMany gs) in
         let m : length front + length (encodeAll orders d 0 gs) ≤ 65536 = rw (length-append front (encodeAll orders d 0 gs)) at n in
         body-collection (headFor (orders []) 7 d) _ (omega arith) room (omega arith) (omega arith)
-        ∙ rw (append-assoc front (encodeAll orders d 0 gs) rest, number-back (orders []) 4 (count gs) (encodeAll orders d 0 gs ++ rest) (omega (arith, count-all orders d 0 gs)))
+        ∙ rw (append-assoc front (encodeAll orders d 0 gs) rest, number-back (orders []) 4 (howMany gs) (encodeAll orders d 0 gs ++ rest) (omega (arith, count-all orders d 0 gs)))
         (parts-back orders 0 gs h (omega arith) (orders []) (room - 1) (omega arith) rest)
 
     parts-back : (orders : Orders) (k : ℕ) (gs : Geometries) → All (OfDims d) (allCoordinates gs) → length (encodeAll orders d k gs) ≤ 65536 → (low : Bool) (room : ℕ) → deepest gs ≤ room → (rest : List ℕ)
-        → repeat (count gs) (readPart room (headFor low 7 d)) (encodeAll orders d k gs ++ rest) ≡ found (allCoordinates gs) rest
+        → several (howMany gs) (readPart room (headFor low 7 d)) (encodeAll orders d k gs ++ rest) ≡ found (allCoordinates gs) rest
     parts-back orders k nil h n low room r rest = refl
     parts-back orders k (cons g gs) h n low room r rest =
         let front = encode (inPart orders k) d g in
@@ -201,9 +201,9 @@ pub there-and-back : (orders : Orders) (d : ℕ) (g : Geometry) → Writable d g
 unfolding readRest andThen ended
 there-and-back orders d g w =
     let h = headFor (orders []) (kindOf g) d in
-    let n : length (encode orders d g) ≤ 65536 = rw (length-any d orders (λ place. true) g) (w .length) in
+    let n : length (encode orders d g) ≤ 65536 = rw (length-any d orders (λ place. true) g) (w .size) in
     let b : readBody 32 h (bodyBytes orders d g) ≡ found (coordinates g) []
-    = rw (append-nil (bodyBytes orders d g)) at (body-back d (w .dims) orders g (w .coordinates) (omega (arith, n, length-encode orders d g)) 32 (w .depth) []) in
+    = rw (append-nil (bodyBytes orders d g)) at (body-back d (w .dims) orders g (w .each) (omega (arith, n, length-encode orders d g)) 32 (w .nesting) []) in
     head-found (encode orders d g) n h (bodyBytes orders d g)
     (rw (encode-is orders d g) (head-back (kindOf g) d (least-kind-of g) (most-kind-of g) (w .dims) (bodyBytes orders d g) (orders [])))
     ∙ rw b

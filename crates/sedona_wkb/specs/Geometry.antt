@@ -1,8 +1,8 @@
 -- Geometries, apart from any bytes; and the bytes that spell them, with a byte order chosen for each part.
 use mathlib.Core.Bool.{Bool, true, false, cond}
-use mathlib.Core.List.{List, [], _∷_, _++_}
+use mathlib.Core.List.{List, [], _∷_, _++_, flatMap}
 use mathlib.Core.Option.{Option, none, some}
-use Prim.Native.Nat.{ℕ, zero, suc, _+_, _*_, _<_, _≤_, max}
+use Prim.Native.Nat.{ℕ, suc, _+_, _*_, _<_, _≤_, max}
 use lib.Dec.{T}
 use lib.Ieee.{Float, binary64, toBits, fits}
 use lib.ListN.{length}
@@ -44,20 +44,16 @@ kindOf (one shape c) = kindOfShape shape
 kindOf (many shape cs) = 3 + kindOfShape shape
 kindOf (collection gs) = 7
 
-unfoldable pub concat : {A B : Type 0} → (A → List B) → List A → List B
-concat f [] = []
-concat f (x ∷ xs) = f x ++ concat f xs
-
 -- The coordinates in their order.
 unfoldable pub coordinatesOf : (shape : Shape) → Content shape → List Coordinate
 coordinatesOf point c = c ∷ []
 coordinatesOf lineString cs = cs
-coordinatesOf polygon rings = concat (λ ring. ring) rings
+coordinatesOf polygon rings = flatMap (λ ring. ring) rings
 
 unfoldable mutual
   pub coordinates : Geometry → List Coordinate
   coordinates (one shape c) = coordinatesOf shape c
-  coordinates (many shape cs) = concat (coordinatesOf shape) cs
+  coordinates (many shape cs) = flatMap (coordinatesOf shape) cs
   coordinates (collection gs) = allCoordinates gs
 
   pub allCoordinates : Geometries → List Coordinate
@@ -75,9 +71,9 @@ unfoldable mutual
   deepest nil = 0
   deepest (cons g gs) = max (depth g) (deepest gs)
 
-unfoldable pub count : Geometries → ℕ
-count nil = 0
-count (cons g gs) = suc (count gs)
+unfoldable pub howMany : Geometries → ℕ
+howMany nil = 0
+howMany (cons g gs) = suc (howMany gs)
 
 -- ---- their dimensions
 
@@ -155,17 +151,20 @@ unfoldable mutual
   pub encode : Orders → ℕ → Geometry → List ℕ
   encode orders d (one shape c) = encodeOne (orders []) d shape c
   encode orders d (many shape cs) = encodeHead (orders []) (3 + kindOfShape shape) d ++ encodeCounted (orders []) (λ k. encodeOne (orders (k ∷ [])) d shape) cs
-  encode orders d (collection gs) = encodeHead (orders []) 7 d ++ (encodeNumber (orders []) 4 (count gs) ++ encodeAll orders d 0 gs)
+  encode orders d (collection gs) = encodeHead (orders []) 7 d ++ (encodeNumber (orders []) 4 (howMany gs) ++ encodeAll orders d 0 gs)
 
   -- Those of a collection, from part k on.
   pub encodeAll : Orders → ℕ → ℕ → Geometries → List ℕ
   encodeAll orders d k nil = []
   encodeAll orders d k (cons g gs) = encode (inPart orders k) d g ++ encodeAll orders d (suc k) gs
 
--- A geometry that can be written and read: in dimensions that there are, of coordinates that have these, in at most 64 KiB (in one
--- byte order, and so in any) with its collections at most 32 deep.
+-- A geometry that can be written and read.
 pub record Writable (d : ℕ) (g : Geometry) : Type 0 where
+  -- "plus 1000 for Z, 2000 for M, 3000 for both"
   pub dims : d < 4
-  pub coordinates : All (OfDims d) (coordinates g)
-  pub length : length (encode (λ place. true) d g) ≤ 65536
-  pub depth : depth g ≤ 32
+  -- "Parts have their parent's dimensions": all coordinates have these, and are doubles
+  pub each : All (OfDims d) (coordinates g)
+  -- "Read up to 64 KiB": as written in one byte order, and so in any
+  pub size : length (encode (λ place. true) d g) ≤ 65536
+  -- no "collection (type 7 alone) more than 32 deep"
+  pub nesting : depth g ≤ 32

@@ -2,6 +2,7 @@ pub mod Error
 pub mod Numbers
 pub mod Reading
 pub mod Wkb
+pub mod Places
 pub mod Extents
 pub mod Outcome
 pub mod Bounds

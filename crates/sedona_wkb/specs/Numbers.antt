@@ -1,9 +1,7 @@
--- Numbers and doubles by their bytes, in either byte order: true is the low byte first.
+-- Numbers by their bytes, in either byte order: true is the low byte first.
 use mathlib.Core.Bool.{Bool, cond}
 use mathlib.Core.List.{List, [], _∷_, reverse}
 use Prim.Native.Nat.{ℕ, zero, suc, _+_, _*_, _%_, _/_}
-use lib.Ieee.{Float, binary64, ofBits}
-use lib.ListN.{take, drop}
 
 -- The number of some bytes, the low byte first.
 unfoldable pub valueOf : List ℕ → ℕ
@@ -18,11 +16,3 @@ bytesOf (suc n) v = v % 256 ∷ bytesOf n (v / 256)
 -- Bytes between a byte order and the low byte first; the same both ways.
 unfoldable pub ordered : Bool → List ℕ → List ℕ
 ordered low bs = cond low bs (reverse bs)
-
--- The number of the n bytes from a place on.
-abbrev pub numberAt : Bool → ℕ → List ℕ → ℕ → ℕ
-numberAt low n s at = valueOf (ordered low (take n (drop at s)))
-
--- The double of the eight bytes from a place on.
-abbrev pub doubleAt : Bool → List ℕ → ℕ → Float
-doubleAt low s at = ofBits binary64 (numberAt low 8 s at)

@@ -34,6 +34,6 @@ unfoldable pub number : Bool → ℕ → Reader ℕ
 number low n s = cond (ltb (length s) n) (refused error.wkbLength) (found (valueOf (ordered low (take n s))) (drop n s))
 
 -- n parts, one after the other, and what is found in all of them.
-unfoldable pub repeat : {A : Type 0} → ℕ → Reader (List A) → Reader (List A)
-repeat zero part s = found [] s
-repeat (suc n) part s = andThen (part s) (λ xs. λ t. andThen (repeat n part t) (λ ys. give (xs ++ ys)))
+unfoldable pub several : {A : Type 0} → ℕ → Reader (List A) → Reader (List A)
+several zero part s = found [] s
+several (suc n) part s = andThen (part s) (λ xs. λ t. andThen (several n part t) (λ ys. give (xs ++ ys)))

@@ -7,8 +7,7 @@ use lib.Dec.{eqb, leb, ltb}
 use lib.Ieee.{Float, binary64, ofBits}
 use lib.ListN.{length}
 use Rattle.sedona_wkb.specs.Error as error
-use Rattle.sedona_wkb.specs.Numbers.{doubleAt}
-use Rattle.sedona_wkb.specs.Reading.{Reading, Reader, refused, found, andThen, _>>=_, give, refuse, number, repeat}
+use Rattle.sedona_wkb.specs.Reading.{Reading, Reader, refused, found, andThen, _>>=_, give, refuse, number, several}
 use Rattle.sedona_wkb.specs.declared.heads.Head.{Head}
 
 -- ---- heads
@@ -78,38 +77,13 @@ readCoordinate h = do
   m ← readWhere (hasM (h .dims)) (h .low)
   give (record { x = x; y = y; z = z; m = m })
 
--- The same by the place where its bytes are.
-unfoldable pub doubleWhere : Bool → Bool → List ℕ → ℕ → Option Float
-doubleWhere true low s at = some (doubleAt low s at)
-doubleWhere false low s at = none
-
-unfoldable pub widthWhere : Bool → ℕ
-widthWhere has = cond has 8 0
-
-abbrev pub width : ℕ → ℕ
-width d = 8 + (8 + (widthWhere (hasZ d) + widthWhere (hasM d)))
-
-abbrev pub coordinateAt : Head → List ℕ → ℕ → Coordinate
-coordinateAt h s at =
-    record {
-      x = doubleAt (h .low) s at;
-      y = doubleAt (h .low) s (at + 8);
-      z = doubleWhere (hasZ (h .dims)) (h .low) s (at + 8 + 8);
-      m = doubleWhere (hasM (h .dims)) (h .low) s (at + 8 + 8 + widthWhere (hasZ (h .dims)));
-    }
-
--- So many coordinates from a place on.
-unfoldable pub coordinatesAt : Head → List ℕ → ℕ → ℕ → List Coordinate
-coordinatesAt h s at zero = []
-coordinatesAt h s at (suc n) = coordinateAt h s at ∷ coordinatesAt h s (at + width (h .dims)) n
-
 -- ---- what follows a head: its coordinates, in their order
 
 -- A count, and that many parts.
 unfoldable pub counted : Head → Reader (List Coordinate) → Reader (List Coordinate)
 counted h part = do
   n ← number (h .low) 4
-  repeat n part
+  several n part
 
 unfoldable pub readPoint : Head → Reader (List Coordinate)
 readPoint h = do

@@ -1,6 +1,6 @@
 // The call: the box and the type of the geometry that some bytes spell.
 ghost use mathlib.Core.Path.{_≡_};
-ghost use Prim.Native.Nat.{_<_, _^_};
+ghost use Prim.Native.Nat.{_<_};
 ghost use lib.ListN.{drop};
 ghost use Rattle.sedona_wkb.specs.Bounds as bounds;
 ghost use Rattle.sedona_wkb.specs.Extents as extents;

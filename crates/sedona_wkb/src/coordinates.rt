@@ -4,6 +4,7 @@ ghost use Prim.Native.Nat.{_+_, _*_, _≤_};
 ghost use lib.ListN.{length, drop};
 ghost use Rattle.sedona_wkb.specs.Extents as extents;
 ghost use Rattle.sedona_wkb.specs.Outcome as outcome;
+ghost use Rattle.sedona_wkb.specs.Places as places;
 ghost use Rattle.sedona_wkb.specs.Wkb as wkb;
 use crate::error::WKB_LENGTH;
 use crate::heads::Head;
@@ -42,22 +43,22 @@ pub(crate) fn has_m(dims: u32) -> bool
 
 // How many bytes a z or an m has.
 fn width_where(has: bool) -> usize
-    ensures { λ r. ⌜ (r ≡ wkb.widthWhere has) × (r ≤ 8) ⌝ }
+    ensures { λ r. ⌜ (r ≡ places.widthWhere has) × (r ≤ 8) ⌝ }
 {
     if has { 8 } else { 0 }
 }
 
 // How many bytes a coordinate has.
 fn width(dims: u32) -> usize
-    ensures { λ r. ⌜ (r ≡ wkb.width dims) × (r ≤ 32) ⌝ }
+    ensures { λ r. ⌜ (r ≡ places.width dims) × (r ≤ 32) ⌝ }
 {
     8 + (8 + (width_where(has_z(dims)) + width_where(has_m(dims))))
 }
 
 // The interval with the z or the m at a place, where there is one.
 fn merge_where(has: bool, bytes: &[u8], at: usize, low: bool, i: Interval) -> Interval
-    requires { ⌜ at + wkb.widthWhere has ≤ length (now bytes) ⌝ }
-    ensures { λ r. ⌜ r ≡ extents.mergeWhere i (wkb.doubleWhere has low (now (bytes .entry)) at) ⌝ }
+    requires { ⌜ at + places.widthWhere has ≤ length (now bytes) ⌝ }
+    ensures { λ r. ⌜ r ≡ extents.mergeWhere i (places.doubleWhere has low (now (bytes .entry)) at) ⌝ }
 {
     if has {
         return i.merge_value(double_at(bytes, at, low));
@@ -68,8 +69,8 @@ fn merge_where(has: bool, bytes: &[u8], at: usize, low: bool, i: Interval) -> In
 // The extents with the coordinate at a place. (x and y come last, behind what may not be there: their
 // bytes are then read as one.)
 fn enter(bytes: &[u8], at: usize, head: Head, e: Extents) -> Extents
-    requires { ⌜ at + wkb.width (head .dims) ≤ length (now bytes) ⌝ }
-    ensures { λ r. ⌜ r ≡ extents.enter e (wkb.coordinateAt head (now (bytes .entry)) at) ⌝ }
+    requires { ⌜ at + places.width (head .dims) ≤ length (now bytes) ⌝ }
+    ensures { λ r. ⌜ r ≡ extents.enter e (places.coordinateAt head (now (bytes .entry)) at) ⌝ }
 {
     let with_z = has_z(head.dims);
     let at_y = at + 8;
@@ -84,8 +85,8 @@ fn enter(bytes: &[u8], at: usize, head: Head, e: Extents) -> Extents
 
 // The extents with so many coordinates from a place on.
 fn enter_all(bytes: &[u8], at: usize, count: u32, head: Head, e: Extents) -> Extents
-    requires { ⌜ at + count * wkb.width (head .dims) ≤ length (now bytes) ⌝ }
-    ensures { λ r. ⌜ r ≡ extents.enterAll e (wkb.coordinatesAt head (now (bytes .entry)) at count) ⌝ }
+    requires { ⌜ at + count * places.width (head .dims) ≤ length (now bytes) ⌝ }
+    ensures { λ r. ⌜ r ≡ extents.enterAll e (places.coordinatesAt head (now (bytes .entry)) at count) ⌝ }
 {
     let width = width(head.dims);
     let mut left = count;

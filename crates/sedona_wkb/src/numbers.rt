@@ -6,6 +6,7 @@ ghost use lib.Dec.{ltb};
 ghost use lib.Ieee.{binary64, ofBits};
 ghost use lib.ListN.{length};
 ghost use Rattle.sedona_wkb.specs.Numbers as numbers;
+ghost use Rattle.sedona_wkb.specs.Places as places;
 
 // Whether fewer bytes than so many are there, from a place on.
 pub(crate) fn is_short(bytes: &[u8], at: usize, count: usize) -> bool
@@ -24,7 +25,7 @@ fn wide(byte: u8) -> u64
 // The number of the four bytes from a place on.
 fn four_at(bytes: &[u8], at: usize, low: bool) -> u64
     requires { ⌜ at + 4 ≤ length (now bytes) ⌝ }
-    ensures { λ r. ⌜ (r ≡ numbers.numberAt low 4 (now (bytes .entry)) at) × (r < 4294967296) ⌝ }
+    ensures { λ r. ⌜ (r ≡ places.numberAt low 4 (now (bytes .entry)) at) × (r < 4294967296) ⌝ }
 {
     let a = wide(bytes[at]);
     let b = wide(bytes[at + 1]);
@@ -40,7 +41,7 @@ fn four_at(bytes: &[u8], at: usize, low: bool) -> u64
 // The same, as a number of 32 bits.
 pub(crate) fn word_at(bytes: &[u8], at: usize, low: bool) -> u32
     requires { ⌜ at + 4 ≤ length (now bytes) ⌝ }
-    ensures { λ r. ⌜ r ≡ numbers.numberAt low 4 (now (bytes .entry)) at ⌝ }
+    ensures { λ r. ⌜ r ≡ places.numberAt low 4 (now (bytes .entry)) at ⌝ }
 {
     four_at(bytes, at, low) as u32
 }
@@ -65,7 +66,7 @@ fn swapped(n: u64) -> u64
 // order asked for at each byte would cost three times as much.
 fn eight_at(bytes: &[u8], at: usize, low: bool) -> u64
     requires { ⌜ at + 8 ≤ length (now bytes) ⌝ }
-    ensures { λ r. ⌜ r ≡ numbers.numberAt low 8 (now (bytes .entry)) at ⌝ }
+    ensures { λ r. ⌜ r ≡ places.numberAt low 8 (now (bytes .entry)) at ⌝ }
 {
     let n = four_at(bytes, at, true) + 4294967296 * four_at(bytes, at + 4, true);
     if low { n } else { swapped(n) }
@@ -92,7 +93,7 @@ fn from_bits(bits: u64) -> f64
 // The double of the eight bytes from a place on.
 pub(crate) fn double_at(bytes: &[u8], at: usize, low: bool) -> f64
     requires { ⌜ at + 8 ≤ length (now bytes) ⌝ }
-    ensures { λ r. ⌜ r ≡ numbers.doubleAt low (now (bytes .entry)) at ⌝ }
+    ensures { λ r. ⌜ r ≡ places.doubleAt low (now (bytes .entry)) at ⌝ }
 {
     from_bits(eight_at(bytes, at, low))
 }

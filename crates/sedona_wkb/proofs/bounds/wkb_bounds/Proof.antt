@@ -1,5 +1,5 @@
 -- `bounds::wkb_bounds` meets its contract. Assumes nothing.
-use mathlib.Core.Path.{_≡_, sym, ap, _∙_}
+use mathlib.Core.Path.{sym, ap, _∙_}
 use borrow.Author.Needs.{needs}
 use Rattle.sedona_wkb.specs.Bounds.{answer}
 use Rattle.sedona_wkb.specs.Outcome.{headed}

@@ -6,7 +6,7 @@ use native.Mathlib.Omega.{arith}
 use lib.ListN.{length}
 use borrow.Author.Needs.{needs}
 use Rattle.sedona_wkb.specs.Extents.{enterAll}
-use Rattle.sedona_wkb.specs.Wkb.{width, coordinatesAt}
+use Rattle.sedona_wkb.specs.Places.{width, coordinatesAt}
 use Rattle.sedona_wkb.proofs.Readers.{enter-first, enter-none}
 use Rattle.sedona_wkb.proofs.coordinates.enter_all.Statement.{statement}
 use Rattle.sedona_wkb.proofs.coordinates.enter_all.Tie as tie

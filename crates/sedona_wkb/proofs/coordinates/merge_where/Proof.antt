@@ -1,6 +1,6 @@
 -- `coordinates::merge_where` meets its contract. Assumes nothing.
 use Rattle.sedona_wkb.specs.Extents.{mergeWhere}
-use Rattle.sedona_wkb.specs.Wkb.{doubleWhere, widthWhere}
+use Rattle.sedona_wkb.specs.Places.{doubleWhere, widthWhere}
 use Rattle.sedona_wkb.proofs.coordinates.merge_where.Statement.{statement}
 use Rattle.sedona_wkb.proofs.coordinates.merge_where.Tie as tie
 

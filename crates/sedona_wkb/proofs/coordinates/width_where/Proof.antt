@@ -1,6 +1,6 @@
 -- `coordinates::width_where` meets its contract. Assumes nothing.
 use native.Mathlib.Omega.{arith}
-use Rattle.sedona_wkb.specs.Wkb.{widthWhere}
+use Rattle.sedona_wkb.specs.Places.{widthWhere}
 use Rattle.sedona_wkb.proofs.coordinates.width_where.Statement.{statement}
 use Rattle.sedona_wkb.proofs.coordinates.width_where.Tie as tie
 

@@ -7,7 +7,7 @@ use borrow.Author.Needs.{needs}
 use borrow.Fn.Kinds.{In}
 use borrow.Fn.PlainCycle.{Measures, is, falls, and}
 use Rattle.sedona_wkb.specs.Outcome.{entered, reached, headed}
-use Rattle.sedona_wkb.specs.Reading.{repeat}
+use Rattle.sedona_wkb.specs.Reading.{several}
 use Rattle.sedona_wkb.specs.Wkb.{readBody, readPart, readCollection}
 use Rattle.sedona_wkb.proofs.Readers.{counted-there, counted-short, turn, turn-refused, no-turn, within-refused, within-found, body-one, body-many, body-deep, body-collection}
 use Rattle.sedona_wkb.proofs.Short.{there, short}
@@ -111,7 +111,7 @@ part-returns-2 t c =
 
 abbrev Inv-loop : collection.InvT-loop
 Inv-loop bytes at head room left₀ end₀ entered₀ left end e =
-    entered entered₀ (readCollection room head (drop at bytes)) ≡ entered e (repeat left (readPart room head) (drop end bytes))
+    entered entered₀ (readCollection room head (drop at bytes)) ≡ entered e (several left (readPart room head) (drop end bytes))
 
 abbrev μ-loop : collection.MeasureT-loop
 μ-loop bytes at head room left₀ end₀ entered₀ left end e = left

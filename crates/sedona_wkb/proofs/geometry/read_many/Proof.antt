@@ -4,7 +4,7 @@ use Prim.Native.Nat.{_+_, _≤_}
 use lib.ListN.{length, drop}
 use borrow.Author.Needs.{needs}
 use Rattle.sedona_wkb.specs.Outcome.{entered, reached}
-use Rattle.sedona_wkb.specs.Reading.{repeat}
+use Rattle.sedona_wkb.specs.Reading.{several}
 use Rattle.sedona_wkb.specs.Wkb.{readMany, readMember}
 use Rattle.sedona_wkb.proofs.Readers.{counted-there, counted-short, turn, turn-refused, no-turn}
 use Rattle.sedona_wkb.proofs.Short.{there, short}
@@ -13,7 +13,7 @@ use Rattle.sedona_wkb.proofs.geometry.read_many.Tie as tie
 
 abbrev Inv-loop : tie.InvT-loop
 Inv-loop bytes at head left₀ end₀ entered₀ left end e =
-    entered entered₀ (readMany head (drop at bytes)) ≡ entered e (repeat left (readMember head) (drop end bytes))
+    entered entered₀ (readMany head (drop at bytes)) ≡ entered e (several left (readMember head) (drop end bytes))
 
 abbrev μ-loop : tie.MeasureT-loop
 μ-loop bytes at head left₀ end₀ entered₀ left end e = left

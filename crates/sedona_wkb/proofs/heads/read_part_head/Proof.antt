@@ -1,5 +1,5 @@
 -- `heads::read_part_head` meets its contract. Assumes nothing.
-use mathlib.Core.Path.{_≡_, sym, ap, _∙_}
+use mathlib.Core.Path.{sym, ap, _∙_}
 use borrow.Author.Needs.{needs}
 use Rattle.sedona_wkb.specs.Outcome.{headed}
 use Rattle.sedona_wkb.proofs.Readers.{part-head-refused, part-head-found, tested-passes, tested-fails}
