@@ -1,5 +1,6 @@
 //! What the lent files import from other crates, a module for each crate. Functions panic, but for
-//! those of `Column`, which keep a name and an index, and those that make an error of a message.
+//! those of `Column`, which keep a name and an index, those that make an error of a message, and
+//! those of a geometry, which give what it has.
 
 pub mod arrow_schema;
 pub mod datafusion_common;

@@ -21,6 +21,8 @@ pub const POINT: u32 = 1;
 pub const LINE_STRING: u32 = 2;
 pub const POLYGON: u32 = 3;
 pub const MULTI_POINT: u32 = 4;
+pub const MULTI_LINE_STRING: u32 = 5;
+pub const MULTI_POLYGON: u32 = 6;
 pub const COLLECTION: u32 = 7;
 
 /// From the type of a MultiPoint, MultiLineString or MultiPolygon to that of its parts.

@@ -239,8 +239,10 @@ impl Random<'_> {
 mod tests {
     use super::*;
     use crate::bounding_box::BoundingBox;
+    use crate::bounds::{geo_traits_bounds_m, geo_traits_bounds_xy, geo_traits_bounds_z};
     use crate::cases::VALUES;
-    use crate::interval::{Interval, IntervalTrait};
+    use crate::error::SedonaGeometryError;
+    use crate::types::{GeometryTypeAndDimensions, GeometryTypeAndDimensionsSet};
     use crate::wkb::{MOST_DEEP, wkb_bounds};
     use std::collections::HashSet;
 
@@ -269,27 +271,31 @@ mod tests {
         }
     }
 
-    /// However its bytes are ordered, a geometry has one answer, that of its coordinates.
+    /// However its bytes are ordered, a geometry has one answer: the Rust's, which reads no bytes.
     #[test]
-    fn answers_are_of_the_coordinates() {
+    fn answers_are_those_of_the_rust() {
         let mut random = Random::new(1, &VALUES);
         let mut different = 0;
         let mut numbers = [0; 18];
+        let mut types = [0; 3];
         for _ in 0..20_000 {
             let geometry = random.geometry();
             let [one, other] = std::array::from_fn(|_| random.ordered(&geometry).bytes);
-            let expected = if one.len() > MOST_BYTES {
-                Err(15)
-            } else if depth(&geometry) > MOST_DEEP {
-                Err(17)
-            } else {
-                Ok(gathered(&geometry))
-            };
+            let expected = expected(&geometry, one.len());
             assert_eq!(wkb_bounds(&one), expected);
             assert_eq!(wkb_bounds(&other), expected);
             different += usize::from(one != other);
+            if let Ok((bounds, bits)) = &expected {
+                let has = |is_such| any(&geometry, is_such);
+                let marks = [bounds.is_empty(), has(f64::is_nan), has(f64::is_infinite)];
+                for (types, mark) in types.iter_mut().zip(marks) {
+                    *types |= bits * u32::from(mark);
+                }
+            }
             numbers[expected.err().unwrap_or(0) as usize] += 1;
         }
+        // Of every type one has an empty box, one a NaN, and one an infinity.
+        assert_eq!(types, [0xfefe_fefe; 3]);
         assert!(different > 10_000, "{different}");
         assert!(numbers[0] > 10_000 && numbers[15] > 5 && numbers[17] > 200);
     }
@@ -306,40 +312,39 @@ mod tests {
         }
     }
 
+    /// The answer to a geometry of so many bytes.
+    fn expected(geometry: &Geometry, length: usize) -> Result<(BoundingBox, u32), u64> {
+        if length > MOST_BYTES {
+            Err(15)
+        } else if depth(geometry) > MOST_DEEP {
+            Err(17)
+        } else {
+            Ok(by_the_rust(geometry).expect("a type of the Rust"))
+        }
+    }
+
     fn depth(geometry: &Geometry) -> u32 {
         let deepest = geometry.parts.iter().map(depth).max().unwrap_or(0);
         deepest + u32::from(geometry.kind() == COLLECTION)
     }
 
-    /// The box of all coordinates that are numbers, and the bit of the type.
-    fn gathered(geometry: &Geometry) -> (BoundingBox, u32) {
-        let mut points = Vec::new();
-        gather(geometry, &mut points);
-        let interval = |place: usize| {
-            let mut ends: Vec<f64> = points.iter().map(|point| point[place]).collect();
-            ends.retain(|end| !end.is_nan());
-            ends.sort_by(f64::total_cmp);
-            match ends[..] {
-                [] => Interval::empty(),
-                [.., hi] => Interval::new(ends[0], hi),
-            }
-        };
-        let (z, m) = match geometry.code / 1000 {
-            0 => (None, None),
-            1 => (Some(2), None),
-            2 => (None, Some(2)),
-            _ => (Some(2), Some(3)),
-        };
-        let (x, y) = (interval(0), interval(1));
-        let bounds = BoundingBox::xyzm(x, y, z.map(interval), m.map(interval));
-        (bounds, 1 << (geometry.kind() + geometry.code / 1000 * 8))
+    /// Whether a coordinate is such a one.
+    fn any(geometry: &Geometry, is_such: fn(f64) -> bool) -> bool {
+        let mut coordinates = geometry.runs.iter().flatten();
+        let mut parts = geometry.parts.iter();
+        coordinates.any(|coordinate| is_such(*coordinate)) || parts.any(|part| any(part, is_such))
     }
 
-    fn gather<'a>(geometry: &'a Geometry, points: &mut Vec<&'a [f64]>) {
-        let width = width(geometry.code);
-        points.extend(geometry.runs.iter().flat_map(|run| run.chunks(width)));
-        for part in &geometry.parts {
-            gather(part, points);
-        }
+    /// The box of a geometry and its type, by the Rust.
+    fn by_the_rust(geometry: &Geometry) -> Result<(BoundingBox, u32), SedonaGeometryError> {
+        let plane = geo_traits_bounds_xy(geometry)?;
+        let z = geo_traits_bounds_z(geometry)?;
+        let m = geo_traits_bounds_m(geometry)?;
+        let has = |dimension| (geometry.code / 1000) & dimension != 0;
+        let (z, m) = (has(1).then_some(z), has(2).then_some(m));
+        let bounds = BoundingBox::xyzm(*plane.x(), *plane.y(), z, m);
+        let mut types = GeometryTypeAndDimensionsSet::new();
+        types.insert(&GeometryTypeAndDimensions::try_from_geom(&geometry)?)?;
+        Ok((bounds, types.bits()))
     }
 }

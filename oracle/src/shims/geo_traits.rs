@@ -1,7 +1,10 @@
-//! Stands in for geo_traits: the traits of geometries, which only a type without values has,
-//! since no geometry is read here.
+//! Stands in for geo_traits: the traits of geometries, which those of the writer have.
 
-use std::iter::Empty;
+use crate::wkb::{
+    COLLECTION, LINE_STRING, MULTI_LINE_STRING, MULTI_POINT, MULTI_POLYGON, POINT, POLYGON,
+};
+use crate::wkb_writer::{Geometry, width};
+use std::slice::{Chunks, Iter};
 
 #[derive(Debug, Clone, Copy, PartialEq, Eq, Hash)]
 pub enum Dimensions {
@@ -13,13 +16,13 @@ pub enum Dimensions {
 }
 
 pub enum GeometryType<'a> {
-    Point(&'a Never),
-    LineString(&'a Never),
-    Polygon(&'a Never),
-    MultiPoint(&'a Never),
-    MultiLineString(&'a Never),
-    MultiPolygon(&'a Never),
-    GeometryCollection(&'a Never),
+    Point(&'a [f64]),
+    LineString(Chunks<'a, f64>),
+    Polygon(&'a Geometry),
+    MultiPoint(&'a Geometry),
+    MultiLineString(&'a Geometry),
+    MultiPolygon(&'a Geometry),
+    GeometryCollection(&'a Geometry),
 }
 
 pub trait GeometryTrait {
@@ -28,50 +31,79 @@ pub trait GeometryTrait {
     fn as_type(&self) -> GeometryType<'_>;
 }
 
-/// Every geometry and every coordinate: there is none.
-pub enum Never {}
-
-impl GeometryTrait for Never {
+impl GeometryTrait for &Geometry {
     type T = f64;
 
     fn dim(&self) -> Dimensions {
-        match *self {}
+        use Dimensions::{Xy, Xym, Xyz, Xyzm};
+        [Xy, Xyz, Xym, Xyzm][self.code as usize / 1000]
     }
 
     fn as_type(&self) -> GeometryType<'_> {
-        match *self {}
+        match self.kind() {
+            POINT => GeometryType::Point(&self.runs[0]),
+            LINE_STRING => GeometryType::LineString(line(self, &self.runs[0])),
+            POLYGON => GeometryType::Polygon(self),
+            MULTI_POINT => GeometryType::MultiPoint(self),
+            MULTI_LINE_STRING => GeometryType::MultiLineString(self),
+            MULTI_POLYGON => GeometryType::MultiPolygon(self),
+            COLLECTION => GeometryType::GeometryCollection(self),
+            kind => panic!("no type has the number {kind}"),
+        }
     }
 }
 
-/// Declares traits, and what `Never` has for them.
-macro_rules! traits_of_never {
-    ($($name:ident { $($method:ident($($operand:ty)?) -> $result:ty;)* })*) => { $(
+/// A run of a geometry, as the coordinates of its points.
+fn line<'a>(geometry: &Geometry, run: &'a [f64]) -> Chunks<'a, f64> {
+    run.chunks(width(geometry.code))
+}
+
+/// Declares traits, and what a type has for them.
+macro_rules! traits {
+    ($($name:ident for $type:ty {
+        $($method:ident(&$self:ident $(, $operand:ident: $of:ty)?) -> $result:ty $body:block)*
+    })*) => { $(
         pub trait $name {
-            $(fn $method(&self $(, _: $operand)?) -> $result;)*
+            $(fn $method(&$self $(, $operand: $of)?) -> $result;)*
         }
 
-        impl $name for Never {
-            $(fn $method(&self $(, _: $operand)?) -> $result {
-                match *self {}
-            })*
+        impl $name for $type {
+            $(fn $method(&$self $(, $operand: $of)?) -> $result $body)*
         }
     )* };
 }
 
-traits_of_never! {
-    CoordTrait {
-        x() -> f64;
-        y() -> f64;
-        nth_unchecked(usize) -> f64;
+traits! {
+    CoordTrait for [f64] {
+        x(&self) -> f64 { self[0] }
+        y(&self) -> f64 { self[1] }
+        nth_unchecked(&self, n: usize) -> f64 { self[n] }
     }
-    PointTrait { coord() -> Option<Never>; }
-    LineStringTrait { coords() -> Empty<Never>; }
-    PolygonTrait {
-        exterior() -> Option<Never>;
-        interiors() -> Empty<Never>;
+    PointTrait for [f64] {
+        // The crate wkb has none where all are NaN; these enter no interval, so it is the same.
+        coord(&self) -> Option<&Self> { Some(self) }
     }
-    MultiPointTrait { points() -> Empty<Never>; }
-    MultiLineStringTrait { line_strings() -> Empty<Never>; }
-    MultiPolygonTrait { polygons() -> Empty<Never>; }
-    GeometryCollectionTrait { geometries() -> Empty<Never>; }
+    LineStringTrait for Chunks<'_, f64> {
+        coords(&self) -> Self { self.clone() }
+    }
+    PolygonTrait for Geometry {
+        exterior(&self) -> Option<Chunks<'_, f64>> {
+            self.runs.first().map(|run| line(self, run))
+        }
+        interiors(&self) -> impl Iterator<Item = Chunks<'_, f64>> {
+            self.runs.iter().skip(1).map(|run| line(self, run))
+        }
+    }
+    MultiPointTrait for Geometry {
+        points(&self) -> Iter<'_, Geometry> { self.parts.iter() }
+    }
+    MultiLineStringTrait for Geometry {
+        line_strings(&self) -> Iter<'_, Geometry> { self.parts.iter() }
+    }
+    MultiPolygonTrait for Geometry {
+        polygons(&self) -> Iter<'_, Geometry> { self.parts.iter() }
+    }
+    GeometryCollectionTrait for Geometry {
+        geometries(&self) -> Iter<'_, Geometry> { self.parts.iter() }
+    }
 }
