@@ -66,8 +66,8 @@ fn merge_where(has: bool, bytes: &[u8], at: usize, low: bool, i: Interval) -> In
     i
 }
 
-// The extents with the coordinate at a place. (x and y come last, behind what may not be there: their
-// bytes are then read as one.)
+// The extents with the coordinate at a place. (x and y come behind what may not be there, so that the
+// bytes of each are read at once.)
 fn enter(bytes: &[u8], at: usize, head: Head, e: Extents) -> Extents
     requires { ⌜ at + places.width (head .dims) ≤ length (now bytes) ⌝ }
     ensures { λ r. ⌜ r ≡ extents.enter e (places.coordinateAt head (now (bytes .entry)) at) ⌝ }

@@ -62,8 +62,8 @@ fn swapped(n: u64) -> u64
     low + 4294967296 * high
 }
 
-// The number of the eight bytes from a place on. They are read in one order whichever is theirs: an
-// order asked for at each byte would cost three times as much.
+// The number of the eight bytes from a place on. They are read low byte first, and exchanged where that
+// is not their order: both are one instruction.
 fn eight_at(bytes: &[u8], at: usize, low: bool) -> u64
     requires { ⌜ at + 8 ≤ length (now bytes) ⌝ }
     ensures { λ r. ⌜ r ≡ places.numberAt low 8 (now (bytes .entry)) at ⌝ }
