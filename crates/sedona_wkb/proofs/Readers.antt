@@ -178,7 +178,7 @@ module _ (p : Reader (List Coordinate)) (n : ℕ) (e : Extents) where
 
 -- A turn of a loop over parts: n are left, and the code reads the one at a place.
 module _ (s : List ℕ) (p : Reader (List Coordinate)) (at : ℕ) (e : Extents) (r : Reached) (q : entered e (p (drop at s)) ≡ reached s r) where
-  pub turn : (n : ℕ) → 0 < n → (f : Extents) (to : ℕ) → r ≡ At f to → entered e (several n p (drop at s)) ≡ entered f (several (n - 1) p (drop to s))
+  pub turn : (n : ℕ) → 0 < n → (f : Extents) (to : ℕ) → r ≡ At to f → entered e (several n p (drop at s)) ≡ entered f (several (n - 1) p (drop to s))
   unfolding several reached
   turn zero h f to g = absurd (omega arith)
   turn (suc n) h f to g =

@@ -15,7 +15,7 @@ headed s (Headed.the-variants.At h end) = found h (drop end s)
 headed s (Headed.the-variants.Refused n) = refused n
 
 unfoldable pub reached : List ℕ → Reached.Reached → Reading Extents
-reached s (Reached.the-variants.At e end) = found e (drop end s)
+reached s (Reached.the-variants.At end e) = found e (drop end s)
 reached s (Reached.the-variants.Refused n) = refused n
 
 -- A reading with its coordinates entered into extents.

@@ -92,7 +92,7 @@ fn bounds_of(bytes: &[u8], at: usize, head: Head) -> WkbBounds
     let reached = read_body(bytes, at, head, DEEPEST, empty());
     match reached {
         Reached::Refused(number) => refused(number),
-        Reached::At(e, end) => {
+        Reached::At(end, e) => {
             if end < bytes.len() {
                 return refused(WKB_LENGTH);
             }

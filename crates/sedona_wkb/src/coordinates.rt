@@ -23,9 +23,9 @@ pub struct Extents {
     pub m: Interval,
 }
 
-// The extents with what was read, and where that ends; or the number that refuses it.
+// Where what was read ends, and the extents with it; or the number that refuses it.
 pub enum Reached {
-    At(Extents, usize),
+    At(usize, Extents),
     Refused(u32),
 }
 
@@ -107,7 +107,7 @@ fn read_point(bytes: &[u8], at: usize, head: Head, e: Extents) -> Reached
     if is_short(bytes, at, width) {
         return Reached::Refused(WKB_LENGTH);
     }
-    Reached::At(enter_all(bytes, at, 1, head, e), at + width)
+    Reached::At(at + width, enter_all(bytes, at, 1, head, e))
 }
 
 // A count, and points. All their bytes are there, or it is short.
@@ -118,11 +118,12 @@ fn read_line(bytes: &[u8], at: usize, head: Head, e: Extents) -> Reached
         return Reached::Refused(WKB_LENGTH);
     }
     let count = word_at(bytes, at, head.low);
+    let first = at + 4;
     let length = count as usize * width(head.dims);
-    if is_short(bytes, at + 4, length) {
+    if is_short(bytes, first, length) {
         return Reached::Refused(WKB_LENGTH);
     }
-    Reached::At(enter_all(bytes, at + 4, count, head, e), at + 4 + length)
+    Reached::At(first + length, enter_all(bytes, first, count, head, e))
 }
 
 // A count, and lines: the rings.
@@ -137,14 +138,14 @@ fn read_polygon(bytes: &[u8], at: usize, head: Head, e: Extents) -> Reached
     let mut entered = e;
     while 0 < left {
         let reached = read_line(bytes, end, head, entered);
-        let Reached::At(more, next) = reached else {
+        let Reached::At(next, more) = reached else {
             return reached;
         };
         end = next;
         entered = more;
         left -= 1;
     }
-    Reached::At(entered, end)
+    Reached::At(end, entered)
 }
 
 // What follows a head of a kind of one.

@@ -39,14 +39,14 @@ fn read_many(bytes: &[u8], at: usize, head: Head, e: Extents) -> Reached
     let mut entered = e;
     while 0 < left {
         let reached = read_member(bytes, end, head, entered);
-        let Reached::At(more, next) = reached else {
+        let Reached::At(next, more) = reached else {
             return reached;
         };
         end = next;
         entered = more;
         left -= 1;
     }
-    Reached::At(entered, end)
+    Reached::At(end, entered)
 }
 
 // What follows a head, where so many collections may still open.
@@ -77,14 +77,14 @@ fn read_collection(bytes: &[u8], at: usize, head: Head, room: u32, e: Extents) -
     let mut entered = e;
     while 0 < left {
         let reached = read_part(bytes, end, head, room, entered);
-        let Reached::At(more, next) = reached else {
+        let Reached::At(next, more) = reached else {
             return reached;
         };
         end = next;
         entered = more;
         left -= 1;
     }
-    Reached::At(entered, end)
+    Reached::At(end, entered)
 }
 
 // A geometry in a collection.

@@ -12,7 +12,7 @@ returns c =
     let told = c .before .before .before in
     let body = told .before .before in
     let args = body .before .before .before .args in
-    c .refused2 .ensures ∙ rest-left-over (args .head) (args .bytes .now) (args .at) (told .reached2 .given .0 .0) (told .reached2 .given .0 .1 .0) (rw (← body .before .empty .ensures) (body .read-body .ensures ∙ ap (reached (args .bytes .now)) (told .reached2 .given .1))) (c .before .if1 .taken)
+    c .refused2 .ensures ∙ rest-left-over (args .head) (args .bytes .now) (args .at) (told .reached2 .given .0 .1 .0) (told .reached2 .given .0 .0) (rw (← body .before .empty .ensures) (body .read-body .ensures ∙ ap (reached (args .bytes .now)) (told .reached2 .given .1))) (c .before .if1 .taken)
 
 returns-2 : tie.Need-returns-2
 unfolding reached
@@ -29,7 +29,7 @@ returns-3 c =
     let told = test .before .before in
     let body = told .before .before in
     let args = body .before .before .before .args in
-    rw (c .types-of .ensures, c .before .accepted .ensures, c .before .before .box-of .ensures) (rest-ended (args .head) (args .bytes .now) (args .at) (told .reached2 .given .0 .0) (told .reached2 .given .0 .1 .0) (rw (← body .before .empty .ensures) (body .read-body .ensures ∙ ap (reached (args .bytes .now)) (told .reached2 .given .1))) (test .if1 .left))
+    rw (c .types-of .ensures, c .before .accepted .ensures, c .before .before .box-of .ensures) (rest-ended (args .head) (args .bytes .now) (args .at) (told .reached2 .given .0 .1 .0) (told .reached2 .given .0 .0) (rw (← body .before .empty .ensures) (body .read-body .ensures ∙ ap (reached (args .bytes .now)) (told .reached2 .given .1))) (test .if1 .left))
 
 pub bounds-of-spec : {M : Type 1} → statement M
 bounds-of-spec =

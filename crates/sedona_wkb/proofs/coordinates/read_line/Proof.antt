@@ -21,11 +21,11 @@ returns c =
 count-is : (c : tie.Else1) → let args = c .before .before .before .args in args .at + 4 ≤ length (args .bytes .now)
 count-is c = there (c .before .is-short .ensures) (c .if1 .left)
 
+add-first : tie.Need-add-first
+add-first c = let g = count-is (c .before) in search needs
+
 mul-length : tie.Need-mul-length
 mul-length c = omega (arith, c .before .word-at .ok, mul-le-mul-left (c .before .word-at .result) (c .width .ensures .1))
-
-add-is-short : tie.Need-add-is-short
-add-is-short c = let g = count-is (c .before .before) in search needs
 
 returns-2 : tie.Need-returns-2
 unfolding reached
@@ -42,14 +42,8 @@ points-are c = there (c .before .is-short2 .ensures) (c .if2 .left)
 enter-all-requires : tie.Need-enter-all-requires
 enter-all-requires c κs = rw (← c .before .before .width .ensures .0) (points-are c)
 
-add-enter-all : tie.Need-add-enter-all
-add-enter-all c = let g = count-is (c .before .before .before .before) in search needs
-
-add-t8 : tie.Need-add-t8
-add-t8 c = let g = count-is (c .before .before .before .before .before) in search needs
-
-add-t12 : tie.Need-add-t12
-add-t12 c = let g = points-are (c .before) in search needs
+add-t9 : tie.Need-add-t9
+add-t9 c = let g = points-are c in search needs
 
 returns-3 : tie.Need-returns-3
 unfolding reached
@@ -62,5 +56,5 @@ returns-3 c =
 pub read-line-spec : {M : Type 1} → statement M
 read-line-spec =
     tie.close
-    (tie.spec (λ c κs. tt) returns (λ c κs. count-is c) (λ c. search needs) (λ c κs. tt) mul-length add-is-short
-    (λ c κs. tt) returns-2 add-enter-all enter-all-requires add-t8 add-t12 returns-3)
+    (tie.spec (λ c κs. tt) returns (λ c κs. count-is c) add-first (λ c. search needs) (λ c κs. tt) mul-length
+    (λ c κs. tt) returns-2 add-t9 enter-all-requires returns-3)

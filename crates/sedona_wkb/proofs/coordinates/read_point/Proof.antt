@@ -22,8 +22,8 @@ point-is c = there (c .before .is-short .ensures) (c .if1 .left)
 enter-all-requires : tie.Need-enter-all-requires
 enter-all-requires c κs = rw (← c .before .before .width .ensures .0) (omega (arith, point-is c))
 
-add-t8 : tie.Need-add-t8
-add-t8 c = let g = point-is (c .before) in search needs
+add-t7 : tie.Need-add-t7
+add-t7 c = let g = point-is c in search needs
 
 returns-2 : tie.Need-returns-2
 unfolding reached
@@ -33,4 +33,4 @@ returns-2 c =
     rw (c .enter-all .ensures, w) (point-there (args .head) (args .bytes .now) (args .at) (args .e) (rw (← w) (point-is (c .before))))
 
 pub read-point-spec : {M : Type 1} → statement M
-read-point-spec = tie.close (tie.spec (λ c κs. tt) (λ c κs. tt) returns enter-all-requires add-t8 returns-2)
+read-point-spec = tie.close (tie.spec (λ c κs. tt) (λ c κs. tt) returns add-t7 enter-all-requires returns-2)
