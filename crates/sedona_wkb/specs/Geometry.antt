@@ -97,11 +97,12 @@ All P (x ∷ xs) = P x × All P xs
 
 -- ---- the bytes
 
--- Where a part is: its number among the parts of its parent, behind that of its parent among its own, and so on; the outermost
--- geometry is at []. An order of bytes for each part, true where its low byte is first.
+-- Where a part is: the number of the outermost geometry's part that it is in, then of that one's, and so on down to itself. The
+-- outermost geometry is at [].
 abbrev pub Place : Type 0
 Place = List ℕ
 
+-- A byte order for each part, true where the low byte is first.
 abbrev pub Orders : Type 0
 Orders = Place → Bool
 
