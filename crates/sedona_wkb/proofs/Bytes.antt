@@ -1,6 +1,6 @@
 -- Numbers and doubles by their bytes. Assumes nothing.
 use mathlib.Core.Path.{_≡_, refl, sym, ap, _∙_}
-use mathlib.Core.Bool.{Bool, true, false}
+use mathlib.Core.Bool.{Bool, true, false, false≢true}
 use mathlib.Core.List.{List, [], _∷_, reverse, reverse-reverse}
 use Prim.Native.Nat.{ℕ, zero, suc, _+_, _*_, _%_, _/_, _^_, _<_, _≤_}
 use native.Mathlib.Nat.{add-zero, pow-succ'}
@@ -99,8 +99,8 @@ value-ordered false n v h = rw (reverse-reverse (bytesOf n v)) (value-of-bytes n
 is-nan : (v : Float) → isNan v ≡ true → v ≡ nan
 unfolding isNan
 is-nan nan e = refl
-is-nan (inf s) e = absurd (let z : _≡_ {A = ℕ} 0 1 = cc in omega arith)
-is-nan (fin s m x) e = absurd (let z : _≡_ {A = ℕ} 0 1 = cc in omega arith)
+is-nan (inf s) e = absurd (false≢true e)
+is-nan (fin s m x) e = absurd (false≢true e)
 
 pub nan-above : (n : ℕ) → 0x7ff0000000000000 < n % 0x8000000000000000 → nan ≡ ofBits binary64 n
 nan-above n h = sym (is-nan (ofBits binary64 n) (sym (nanBits-is binary64 n) ∙ nanBits-above binary64 n ∙ lt-ltb _ _ h))

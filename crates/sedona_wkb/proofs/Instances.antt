@@ -1,14 +1,15 @@
 -- Geometries that meet every hypothesis of the theorems, and bytes. Assumes nothing.
 use mathlib.Core.Path.{_≡_, refl}
 use mathlib.Core.Bool.{true, false, not}
-use mathlib.Core.List.{[], _∷_, flatMap}
+use mathlib.Core.List.{List, [], _∷_, flatMap}
 use mathlib.Core.Option.{none, some}
-use Prim.Native.Nat.{ℕ}
+use Prim.Native.Nat.{ℕ, _^_}
 use native.Mathlib.Omega.{arith}
 use lib.Dec.{T}
 use lib.Ieee.{Float, fin, binary64, fits, ofBits, ofFields, odd}
 use lib.IntN.{pos}
-use Rattle.sedona_wkb.specs.Bounds.{wkbBounds, boxFrom, AcceptsCoordinate}
+use Rattle.sedona_geometry.specs.Types as types
+use Rattle.sedona_wkb.specs.Bounds.{typesOf, refusal, answer, wkbBounds, boxFrom, AcceptsCoordinate}
 use Rattle.sedona_wkb.specs.Geometry.{point, lineString, polygon, Geometry, one, many, collection, nil, cons, coordinatesOf, coordinates, depth, kindOfShape, kindOf, OfDims, All, Orders, encodeNumber, encodeDouble, encodeWhere, encodeCoordinate, encodeFrom, encodeCounted, encodeContent, encodeHead, encodeOne, encode, Writable}
 use Rattle.sedona_wkb.specs.Numbers.{valueOf, bytesOf, ordered}
 use Rattle.sedona_wkb.specs.Reading.{found, andThen, number}
@@ -88,9 +89,31 @@ polygons-read = there-and-back highFirst 3 polygons polygons-writable
 pub polygons-accepted : All (AcceptsCoordinate (boxFrom (encode highFirst 3 polygons))) (coordinates polygons)
 polygons-accepted = accepts-every-written highFirst 3 polygons polygons-writable
 
--- ---- bytes: POINT (1 1), low byte first, computed
+-- ---- bytes, computed
 
+-- POINT (1 1), low byte first.
 pub point-read : spelled (1 ∷ 1 ∷ 0 ∷ 0 ∷ 0 ∷ 0 ∷ 0 ∷ 0 ∷ 0 ∷ 0 ∷ 0 ∷ 240 ∷ 63 ∷ 0 ∷ 0 ∷ 0 ∷ 0 ∷ 0 ∷ 0 ∷ 240 ∷ 63 ∷ [])
     ≡ found (asSpelled 0 (one point (xy 1 1))) []
 unfolding spelled readHead readRest ended readBody byKind readOne readPoint readCoordinate readDouble readWhere number ordered valueOf andThen tested isType ofBits ofFields odd coordinates coordinatesOf kindOf kindOfShape
 point-read = refl
+
+-- POINT M (1 1 1), high byte first: 2001 is 7, 209.
+abbrev probe : List ℕ
+probe = 0 ∷ 0 ∷ 0 ∷ 7 ∷ 209 ∷ 63 ∷ 240 ∷ 0 ∷ 0 ∷ 0 ∷ 0 ∷ 0 ∷ 0 ∷ 63 ∷ 240 ∷ 0 ∷ 0 ∷ 0 ∷ 0 ∷ 0 ∷ 0 ∷ 63 ∷ 240 ∷ 0 ∷ 0 ∷ 0 ∷ 0 ∷ 0 ∷ 0 ∷ []
+
+pub probe-read : spelled probe ≡ found (asSpelled 2 (one point (record { x = num 1; y = num 1; z = none; m = some (num 1) }))) []
+unfolding spelled readHead readRest ended readBody byKind readOne readPoint readCoordinate readDouble readWhere number ordered valueOf andThen tested isType ofBits ofFields odd coordinates coordinatesOf kindOf kindOfShape
+probe-read = refl
+
+pub probe-type : wkbBounds probe .types ≡ types.fromBits (2 ^ 17)
+unfolding answer typesOf kindOf kindOfShape
+probe-type = rw probe-read
+
+-- No byte, and a byte order that is none.
+pub none-read : wkbBounds [] ≡ refusal 15
+unfolding spelled readHead number andThen answer
+none-read = refl
+
+pub no-order-read : wkbBounds (2 ∷ []) ≡ refusal 16
+unfolding spelled readHead number ordered valueOf andThen answer
+no-order-read = refl

@@ -1,6 +1,6 @@
 -- What holds of all that a reader finds: of heads, and of coordinates. Assumes nothing.
 use mathlib.Core.Path.{_≡_, refl, subst}
-use mathlib.Core.Bool.{Bool, true, false, cond, _&&_}
+use mathlib.Core.Bool.{Bool, true, false, cond, and-eq-true-iff}
 use mathlib.Core.List.{List, [], _∷_, _++_}
 use Prim.Native.Nat.{ℕ, zero, suc, _+_, _<_}
 use native.Mathlib.Omega.{arith}
@@ -39,10 +39,6 @@ only-either P false p q f g t = g t
 
 -- ---- heads
 
-and-true : (a b : Bool) → a && b ≡ true → (a ≡ true) × (b ≡ true)
-and-true true b e = (refl, e)
-and-true false b e = absurd (let z : _≡_ {A = ℕ} 0 1 = cc in omega arith)
-
 abbrev Passes : (Head → Bool) → Head → Type 0
 Passes test h = test h ≡ true
 
@@ -59,20 +55,15 @@ head-only s =
     only-then Any (Passes isType) (number (eqb order 1) 4 u) _ (anything (number (eqb order 1) 4 u)) (λ code v b.
     tested-only isType (headOf (eqb order 1) code) v _ refl)) t)
 
--- A kind that there is, and dimensions that there are.
-record Known (h : Head) : Type 0 where
-  kind : h .kind < 8
-  dims : h .dims < 4
-
-known : (h : Head) → Passes isType h → Known h
+-- The kind is one, and the dimensions are some.
+known : (h : Head) → Passes isType h → (h .kind < 8) × (h .dims < 4)
 unfolding isType
 known h e =
-    let p = and-true (ltb 0 (h .kind)) _ e in
-    let q = and-true (leb (h .kind) 7) _ (p .1) in
-    record { kind = omega (arith, leb-true (h .kind) 7 (q .0)); dims = ltb-true (h .dims) 4 (q .1) }
+    let p = and-eq-true-iff (leb (h .kind) 7) _ .0 (and-eq-true-iff (ltb 0 (h .kind)) _ .0 e .1) in
+    (omega (arith, leb-true (h .kind) 7 (p .0)), ltb-true (h .dims) 4 (p .1))
 
 pub head-known : (s : List ℕ) (h : Head) (t : List ℕ) → readHead s ≡ found h t → (h .kind < 8) × (h .dims < 4)
-head-known s h t e = let k = known h (rw e at (head-only s)) in (k .kind, k .dims)
+head-known s h t e = known h (rw e at (head-only s))
 
 -- A part has its parent's dimensions.
 part-head-only : (parent : Head) (s : List ℕ) → Only (Passes (isPart parent)) (readPartHead parent s)
@@ -81,7 +72,7 @@ part-head-only parent s = only-then Any (Passes (isPart parent)) (readHead s) _ 
 
 same-dims : (parent h : Head) → Passes (isPart parent) h → h .dims ≡ parent .dims
 unfolding isPart
-same-dims parent h e = eqb-true (h .dims) (parent .dims) (and-true (eqb (h .dims) (parent .dims)) _ e .0)
+same-dims parent h e = eqb-true (h .dims) (parent .dims) (and-eq-true-iff (eqb (h .dims) (parent .dims)) _ .0 e .0)
 
 -- ---- coordinates
 
