@@ -1,19 +1,20 @@
 -- Geometries that meet every hypothesis of the theorems, and bytes. Assumes nothing.
 use mathlib.Core.Path.{_≡_, refl}
 use mathlib.Core.Bool.{true, false, not}
-use mathlib.Core.List.{List, [], _∷_, flatMap}
+use mathlib.Core.List.{List, [], _∷_, _++_, flatMap}
 use mathlib.Core.Option.{none, some}
 use Prim.Native.Nat.{ℕ, _^_}
 use native.Mathlib.Omega.{arith}
 use lib.Dec.{T}
 use lib.Ieee.{Float, fin, binary64, fits, ofBits, ofFields, odd}
 use lib.IntN.{pos}
+use lib.ListN.{take, replicate}
 use Rattle.sedona_geometry.specs.Types as types
 use Rattle.sedona_wkb.specs.Bounds.{typesOf, refusal, answer, wkbBounds, boxFrom, AcceptsCoordinate}
 use Rattle.sedona_wkb.specs.Geometry.{point, lineString, polygon, Geometry, one, many, collection, nil, cons, coordinatesOf, coordinates, depth, kindOfShape, kindOf, OfDims, All, Orders, encodeNumber, encodeDouble, encodeWhere, encodeCoordinate, encodeFrom, encodeCounted, encodeContent, encodeHead, encodeOne, encode, Writable}
 use Rattle.sedona_wkb.specs.Numbers.{valueOf, bytesOf, ordered}
-use Rattle.sedona_wkb.specs.Reading.{found, andThen, number}
-use Rattle.sedona_wkb.specs.Wkb.{Coordinate, isType, tested, readHead, readDouble, readWhere, readCoordinate, readPoint, readOne, byKind, readBody, ended, readRest, spelled}
+use Rattle.sedona_wkb.specs.Reading.{found, andThen, number, several}
+use Rattle.sedona_wkb.specs.Wkb.{Coordinate, isType, isPart, tested, readHead, readPartHead, readDouble, readWhere, readCoordinate, counted, readPoint, readOne, within, byKind, readBody, ended, readRest, spelled}
 use Rattle.sedona_wkb.proofs.ThereAndBack.{asSpelled, there-and-back, either-order, accepts-every-written}
 
 -- An odd number, as a double is written.
@@ -92,10 +93,12 @@ polygons-accepted = accepts-every-written highFirst 3 polygons polygons-writable
 -- ---- bytes, computed
 
 -- POINT (1 1), low byte first.
-pub point-read : spelled (1 ∷ 1 ∷ 0 ∷ 0 ∷ 0 ∷ 0 ∷ 0 ∷ 0 ∷ 0 ∷ 0 ∷ 0 ∷ 240 ∷ 63 ∷ 0 ∷ 0 ∷ 0 ∷ 0 ∷ 0 ∷ 0 ∷ 240 ∷ 63 ∷ [])
-    ≡ found (asSpelled 0 (one point (xy 1 1))) []
+abbrev unit : List ℕ
+unit = 1 ∷ 1 ∷ 0 ∷ 0 ∷ 0 ∷ 0 ∷ 0 ∷ 0 ∷ 0 ∷ 0 ∷ 0 ∷ 240 ∷ 63 ∷ 0 ∷ 0 ∷ 0 ∷ 0 ∷ 0 ∷ 0 ∷ 240 ∷ 63 ∷ []
+
+pub unit-read : spelled unit ≡ found (asSpelled 0 (one point (xy 1 1))) []
 unfolding spelled readHead readRest ended readBody byKind readOne readPoint readCoordinate readDouble readWhere number ordered valueOf andThen tested isType ofBits ofFields odd coordinates coordinatesOf kindOf kindOfShape
-point-read = refl
+unit-read = refl
 
 -- POINT M (1 1 1), high byte first: 2001 is 7, 209.
 abbrev probe : List ℕ
@@ -109,11 +112,28 @@ pub probe-type : wkbBounds probe .types ≡ types.fromBits (2 ^ 17)
 unfolding answer typesOf kindOf kindOfShape
 probe-type = rw probe-read
 
--- No byte, and a byte order that is none.
-pub none-read : wkbBounds [] ≡ refusal 15
-unfolding spelled readHead number andThen answer
-none-read = refl
+-- So many collections, each of one part, low byte first; and a MultiPoint of one.
+abbrev nested : ℕ → List ℕ
+nested n = flatMap (λ (collection : ℕ). 1 ∷ 7 ∷ 0 ∷ 0 ∷ 0 ∷ 1 ∷ 0 ∷ 0 ∷ 0 ∷ []) (replicate n 0)
 
-pub no-order-read : wkbBounds (2 ∷ []) ≡ refusal 16
-unfolding spelled readHead number ordered valueOf andThen answer
-no-order-read = refl
+abbrev multiPoint : List ℕ
+multiPoint = 1 ∷ 4 ∷ 0 ∷ 0 ∷ 0 ∷ 1 ∷ 0 ∷ 0 ∷ 0 ∷ []
+
+-- What each of these is refused by.
+pub refused-by : All (λ (c : List ℕ × ℕ). wkbBounds (c .0) ≡ refusal (c .1)) (
+    -- no byte; a point short of one, and with one left over
+    ([], 15) ∷
+    (take 20 unit, 15) ∷
+    (unit ++ 0 ∷ [], 15) ∷
+    -- a byte order that is none; type 8; a LineString and a Point Z in a MultiPoint
+    (2 ∷ [], 16) ∷
+    (1 ∷ 8 ∷ 0 ∷ 0 ∷ 0 ∷ [], 16) ∷
+    (multiPoint ++ 1 ∷ 2 ∷ 0 ∷ 0 ∷ 0 ∷ [], 16) ∷
+    (multiPoint ++ 1 ∷ 233 ∷ 3 ∷ 0 ∷ 0 ∷ [], 16) ∷
+    -- the 32nd collection is not, but for its part, which is not there; the 33rd is, and 16 comes before 17
+    (nested 32, 15) ∷
+    (nested 33, 17) ∷
+    (nested 32 ++ 1 ∷ 239 ∷ 3 ∷ 0 ∷ 0 ∷ [], 16) ∷
+    [])
+unfolding flatMap spelled readHead readPartHead readRest ended readBody byKind counted several within readOne readPoint readCoordinate readDouble readWhere number ordered valueOf andThen tested isType isPart ofBits ofFields odd answer
+refused-by = (refl, (refl, (refl, (refl, (refl, (refl, (refl, (refl, (refl, (refl, tt))))))))))
