@@ -21,7 +21,8 @@ struct Two {
     y: [Interval; 2],
 }
 
-/// A call that changes a box changes a copy, which both sides make anew each time.
+/// A call that changes a box changes a copy, which both sides make anew each time. None of the pairs is
+/// one of those where the library and the Rust say differently whether an x contains another.
 pub fn rows(bench: &Bench) {
     let pairs = pairs();
     let row = |name: &str| Row {
@@ -77,6 +78,12 @@ pub fn rows(bench: &Bench) {
             let number = johikape_box_expand_by(&mut a.doubles, &mut a.flags, black_box(DISTANCE));
             (number, a)
         },
+    );
+    bench.row(
+        row("x contains"),
+        |two| two.a.x().contains_interval(two.b.x()),
+        |answer| *answer,
+        |two| johikape_x_contains(two.x[0], two.x[1]),
     );
     bench.row(
         row("x merge"),

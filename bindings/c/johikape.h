@@ -161,7 +161,7 @@ uint32_t johikape_fold(const double *doubles, size_t doubles_count,
 /* ---- boxes */
 
 /* JOHIKAPE_YES or JOHIKAPE_NO; or JOHIKAPE_BOXES where flags are bad. z and m are looked at only
- * where both boxes know them. */
+ * where both boxes know them; what an x contains, johikape_x_contains says. */
 uint32_t johikape_box_intersects(const double a[8], uint8_t a_flags, const double b[8],
                                  uint8_t b_flags);
 uint32_t johikape_box_contains(const double a[8], uint8_t a_flags, const double b[8],
@@ -221,6 +221,9 @@ johikape_interval johikape_interval_expand_by(johikape_interval a, double distan
 bool johikape_x_wraps(johikape_interval a);
 bool johikape_x_accepts(johikape_interval a, double value);
 bool johikape_x_intersects(johikape_interval a, johikape_interval b);
+/* Whether each piece of b that is not empty lies inside a piece of a. A wrapped x has two pieces,
+ * (-inf, hi) and (lo, inf), any other itself alone. So (170, -170) contains (175, 178), and (-180, 180)
+ * does not contain (170, -170). An empty b is contained by all, one with NaN by none. */
 bool johikape_x_contains(johikape_interval a, johikape_interval b);
 bool johikape_x_is_empty(johikape_interval a);
 double johikape_x_width(johikape_interval a);

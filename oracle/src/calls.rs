@@ -1,7 +1,9 @@
-//! The table of calls: the names of the case language, and the lent Rust that answers them.
+//! The table of calls: the names of the case language, and the lent Rust that answers them. Whether an
+//! x contains another it is not always asked (containing.rs).
 
 use crate::answer::{Answer, Digest};
 use crate::bounding_box::BoundingBox;
+use crate::containing::{box_contains, x_contains};
 use crate::interval::{Interval, IntervalTrait, WraparoundInterval};
 use crate::operands::{Kind, Lists, Operand, Operands, read};
 use crate::records::{folded, merged};
@@ -79,9 +81,9 @@ fn tuple(choices: &[Vec<Operand>], number: usize) -> Vec<&Operand> {
 
 /// All calls.
 pub fn table() -> Vec<Call> {
-    let mut calls = calls_of_both::<Interval>("Interval");
+    let mut calls = calls_of_both("Interval", Interval::contains_interval);
     calls.extend(calls_of_interval());
-    calls.extend(calls_of_both::<WraparoundInterval>("WraparoundInterval"));
+    calls.extend(calls_of_both("WraparoundInterval", x_contains));
     calls.extend(calls_of_wraparound_interval());
     calls.extend(calls_of_float());
     calls.extend(calls_of_bounding_box());
@@ -90,8 +92,11 @@ pub fn table() -> Vec<Call> {
     calls
 }
 
-/// The calls that are the same for both types.
-fn calls_of_both<I: IntervalTrait + Into<Answer> + 'static>(of: &str) -> Vec<Call> {
+/// The calls that are the same for both types, but for what `contains_interval` gives.
+fn calls_of_both<I: IntervalTrait + Into<Answer> + 'static>(
+    of: &str,
+    contains: fn(&I, &I) -> bool,
+) -> Vec<Call> {
     vec![
         Call::new(of, "new", |[lo, hi]: [f64; 2]| I::new(lo, hi)),
         Call::new(of, "empty", |[]: [f64; 0]| I::empty()),
@@ -99,7 +104,7 @@ fn calls_of_both<I: IntervalTrait + Into<Answer> + 'static>(of: &str) -> Vec<Cal
         alone(of, "is_wraparound", I::is_wraparound),
         with_value(of, "intersects_value", I::intersects_value),
         with_interval(of, "intersects_interval", I::intersects_interval),
-        with_interval(of, "contains_interval", I::contains_interval),
+        with_interval(of, "contains_interval", contains),
         alone(of, "width", I::width),
         alone(of, "mid", I::mid),
         alone(of, "is_empty", I::is_empty),
@@ -165,7 +170,7 @@ fn calls_of_bounding_box() -> Vec<Call> {
         Call::new(of, "empty", |[]: [f64; 0]| BoundingBox::empty()),
         Call::new(of, "is_empty", |[b]: [BoundingBox; 1]| b.is_empty()),
         with_box(of, "intersects", BoundingBox::intersects),
-        with_box(of, "contains", BoundingBox::contains),
+        with_box(of, "contains", box_contains),
         Call::new(of, "expand_by", |(b, distance): (BoundingBox, f64)| {
             b.expand_by(distance)
         }),

@@ -49,7 +49,7 @@ const HEADER: &str = "\
 ";
 
 /// The case file: a sweep of every call whose operands are listed, and the cases of singles.txt,
-/// filters.txt, layouts.txt, has_z.txt, names.txt, wkb.txt and gdal.txt.
+/// filters.txt, layouts.txt, has_z.txt, names.txt, wkb.txt, gdal.txt and containing.txt.
 pub fn cases(calls: &[Call]) -> String {
     let sweeps: String = calls
         .iter()
@@ -78,6 +78,7 @@ fn singles() -> String {
         include_str!("names.txt"),
         include_str!("wkb.txt"),
         include_str!("gdal.txt"),
+        include_str!("containing.txt"),
     ];
     let lines = files.into_iter().flat_map(str::lines);
     lines.map(|line| spelled(line) + "\n").collect()

@@ -2,6 +2,7 @@
 
 use crate::answer::Answer;
 use crate::bounding_box::BoundingBox;
+use crate::containing::{are_compared, box_contains};
 use crate::interval::{Interval, IntervalTrait, WraparoundInterval};
 use crate::refusals::check;
 use crate::shims::datafusion_physical_expr::expressions::Column;
@@ -135,28 +136,30 @@ impl Tables {
     /// Whether the filter may match, or the number that refuses it.
     pub fn may_match(&self, lookup: Lookup) -> Result<bool, u64> {
         check(self, lookup)?;
-        let answer = self.root().evaluate(&self.statistics(lookup));
+        let answer = self.root(lookup).evaluate(&self.statistics(lookup));
         Ok(answer.expect("every index is lent"))
     }
 
     /// The filter's box for the column of a name, or the number that refuses it.
     pub fn bounds_of(&self, name: u32) -> Result<BoundingBox, u64> {
         check(self, Lookup::Nothing)?;
-        Ok(self.root().filter_bbox(&name.to_string()))
+        Ok(self.root(Lookup::Nothing).filter_bbox(&name.to_string()))
     }
 
-    fn root(&self) -> SpatialFilter {
-        self.filter(self.nodes.len() / 4 - 1)
+    fn root(&self, lookup: Lookup) -> SpatialFilter {
+        self.filter(self.nodes.len() / 4 - 1, lookup)
     }
 
-    fn filter(&self, node: usize) -> SpatialFilter {
+    /// The filter of a node. A Covers of which the Rust is not asked is its answer.
+    fn filter(&self, node: usize, lookup: Lookup) -> SpatialFilter {
         let [kind, first, second, third] = self.node(node);
         let column = || Column::new(&second.to_string(), first as usize);
         let literal = || self.literals.bounds(third as usize);
-        let child = |node: u32| Box::new(self.filter(node as usize));
+        let child = |node: u32| Box::new(self.filter(node as usize, lookup));
+        let record = || self.record(lookup, first, second);
         match kind {
             0 => SpatialFilter::Intersects(column(), literal()),
-            1 => SpatialFilter::Covers(column(), literal()),
+            1 => covers(column(), literal(), record()),
             2 => SpatialFilter::HasZ(column()),
             3 => SpatialFilter::And(child(first), child(second)),
             4 => SpatialFilter::Or(child(first), child(second)),
@@ -166,10 +169,19 @@ impl Tables {
         }
     }
 
+    /// The box of the record that a leaf finds, by its index or its name.
+    fn record(&self, lookup: Lookup, index: u32, name: u32) -> Option<BoundingBox> {
+        let place = match lookup {
+            Lookup::ByPosition => Some(index as usize),
+            Lookup::ByName => self.names.iter().position(|other| *other == name),
+            Lookup::Nothing => None,
+        };
+        self.records.known(place?)
+    }
+
     fn statistics(&self, lookup: Lookup) -> TableGeoStatistics {
-        let flags = self.records.flags.iter().enumerate();
-        let records = flags.map(|(place, flag)| {
-            let bounds = (*flag != 0).then(|| self.records.bounds(place));
+        let records = (0..self.records.flags.len()).map(|place| {
+            let bounds = self.records.known(place);
             let is_known = self.types_known[place] != 0;
             let types = is_known.then(|| Set::from_bits(self.record_types[place]));
             GeoStatistics::unspecified()
@@ -185,8 +197,27 @@ impl Tables {
 }
 
 impl Boxes {
-    fn bounds(&self, place: usize) -> BoundingBox {
+    pub fn bounds(&self, place: usize) -> BoundingBox {
         bounds(&self.ends[8 * place..], self.flags[place])
+    }
+
+    /// None where the flag says that there is no box.
+    pub fn known(&self, place: usize) -> Option<BoundingBox> {
+        (self.flags[place] != 0).then(|| self.bounds(place))
+    }
+}
+
+/// A Covers, which is the Rust's to answer but for some x.
+fn covers(column: Column, literal: BoundingBox, record: Option<BoundingBox>) -> SpatialFilter {
+    match record {
+        Some(record) if !are_compared(record.x(), literal.x()) => {
+            if box_contains(&record, &literal) {
+                SpatialFilter::Unknown
+            } else {
+                SpatialFilter::LiteralFalse
+            }
+        }
+        _ => SpatialFilter::Covers(column, literal),
     }
 }
 

@@ -5,6 +5,7 @@ pub mod answer;
 pub mod answers;
 pub mod calls;
 pub mod cases;
+pub mod containing;
 pub mod filter_draws;
 pub mod filters;
 pub mod layouts;

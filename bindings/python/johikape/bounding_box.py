@@ -65,7 +65,8 @@ class BoundingBox(Value):
         return answer(library.johikape_box_intersects(*self._lend(), *_lend(other)))
 
     def contains(self, other: BoundingBox) -> bool:
-        """Whether the other lies in this one. z and m are tested only where both know them.
+        """Whether the other lies in this one. z and m are tested only where both know them; an x
+        may wrap on either side.
 
         >>> BoundingBox((0, 10), (0, 1)).contains(BoundingBox((1, 2), (0, 1), z=(5, 6)))
         True

@@ -131,8 +131,8 @@ class WraparoundInterval(_Ends):
     """An x. Where its low is above its high it wraps around.
 
     It holds everything at or above the low then, and everything at or below the high: (170, -170)
-    is the strip at the antimeridian. `contains` holds these two pieces one against one, the lower
-    against the lower; an x that does not wrap is a lower piece alone.
+    is the strip at the antimeridian. `contains` asks that each piece of the other that is not empty
+    lies inside one of its pieces; an x that does not wrap is one piece.
 
     >>> strip = WraparoundInterval(170, -170)
     >>> strip.intersects_value(175), strip.intersects_value(0)
@@ -140,6 +140,8 @@ class WraparoundInterval(_Ends):
     >>> strip.contains(WraparoundInterval(-178, -175))
     True
     >>> strip.contains(WraparoundInterval(175, 178))
+    True
+    >>> WraparoundInterval(-180, 180).contains(strip)
     False
     >>> strip.merge(WraparoundInterval(-100, 100))
     WraparoundInterval(lo=-100.0, hi=-170.0)

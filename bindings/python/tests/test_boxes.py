@@ -48,7 +48,9 @@ class Boxes(unittest.TestCase):
     def test_contains(self):
         a = BoundingBox((170, -170), (0, 10), m=(0, 55))
         self.assertTrue(a.contains(BoundingBox((-178, -175), (1, 2), m=(1, 2))))
-        self.assertFalse(a.contains(BoundingBox((175, 178), (1, 2))))
+        self.assertTrue(a.contains(BoundingBox((175, 178), (1, 2))))
+        self.assertFalse(a.contains(BoundingBox((165, 178), (1, 2))))
+        self.assertFalse(a.contains(BoundingBox((175, 178), (1, 12))))
         self.assertFalse(a.contains(BoundingBox((-178, -175), (1, 2), m=(1, 56))))
 
     def test_merge_keeps_what_both_know(self):

@@ -42,6 +42,13 @@ class Leaves(unittest.TestCase):
         self.assertIs(Filter.covers(FIRST, inside).evaluate_by_position([LOW]), MAY)
         self.assertIs(Filter.covers(FIRST, LOW).evaluate_by_position([inside]), CANNOT)
 
+    def test_covers_reaches_across_the_antimeridian(self):
+        islands = BoundingBox((170, -170), (0, 10))
+        cases = [((175, 178), MAY), ((-178, -175), MAY), ((175, -175), MAY), ((160, 178), CANNOT)]
+        for x, answer in cases:
+            wanted = Filter.covers(FIRST, BoundingBox(x, (1, 2)))
+            self.assertIs(wanted.evaluate_by_position([islands]), answer, x)
+
     def test_has_z_asks_for_a_type_with_z(self):
         without, with_z = (0, 7, 16, 23), (8, 15, 24, 31)
         cases = [(None, MAY), (0, CANNOT), (0x00FF00FF, CANNOT), (POINT | POINT_Z, MAY)]

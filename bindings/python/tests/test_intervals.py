@@ -77,9 +77,12 @@ class X(unittest.TestCase):
         self.assertEqual(self.strip.mid(), inf)
         self.assertEqual(WraparoundInterval(1, 4).mid(), 2.5)
 
-    def test_contains_holds_piece_against_piece(self):
-        self.assertTrue(self.strip.contains(WraparoundInterval(-178, -175)))
-        self.assertFalse(self.strip.contains(WraparoundInterval(175, 178)))
+    def test_contains_what_lies_in_its_pieces(self):
+        for inside in [(-178, -175), (175, 178), (175, -175), (inf, -inf)]:
+            self.assertTrue(self.strip.contains(WraparoundInterval(*inside)), inside)
+        for outside in [(160, 178), (169, -170), (175, nan), (-inf, inf)]:
+            self.assertFalse(self.strip.contains(WraparoundInterval(*outside)), outside)
+        self.assertFalse(WraparoundInterval(-180, 180).contains(self.strip))
         self.assertTrue(self.strip.intersects(WraparoundInterval(175, 178)))
         self.assertFalse(self.strip.intersects(WraparoundInterval(-100, 100)))
 

@@ -78,7 +78,8 @@ impl BoundingBox {
         calls::box_intersects(&Ends::of(self), &Ends::of(other))
     }
 
-    /// Whether this box contains the other. z and m are tested only where both boxes know them.
+    /// Whether this box contains the other. z and m are tested only where both boxes know them; an x
+    /// may wrap on either side ([`crate::WraparoundInterval::contains`]).
     pub fn contains(&self, other: &BoundingBox) -> bool {
         calls::box_contains(&Ends::of(self), &Ends::of(other))
     }

@@ -84,12 +84,10 @@ pub enum Evaluation {
 /// # What can be relied on
 ///
 /// Let each record be the [`fold`](crate::fold) of records that have all rows of its column. Then a
-/// file that has a wanted row may match: it is never skipped. Of a column under a
-/// [`covers`](Filter::covers) this asks moreover that no record's x wraps around or has a NaN end,
-/// and that the literal's x runs low to high; else a file with a covering row may be skipped. Of a
-/// column under a [`has_z`](Filter::has_z) it asks that the record of a row that this leaf wants is
-/// its box beside a known type set with its type's bit; else a file with such a row may be skipped,
-/// for the types that other records know.
+/// file that has a wanted row may match: it is never skipped. Records and literals may have any x,
+/// wrapped around, empty or with a NaN end. Of a column under a [`has_z`](Filter::has_z) this asks
+/// that the record of a row that this leaf wants is its box beside a known type set with its type's
+/// bit; else a file with such a row may be skipped, for the types that other records know.
 ///
 /// # Size
 ///

@@ -201,16 +201,19 @@ impl WraparoundInterval {
         raw::johikape_x_intersects(self.ends(), other.ends())
     }
 
-    /// Whether the left piece contains the other's left piece, and the right one its right piece.
+    /// Whether each piece of the other that is not empty lies inside a piece of this x.
     ///
-    /// A plain x counts as a left piece beside an empty right one. So a wrapped x contains a plain
-    /// one that lies in its left piece, and does not contain one that lies in its right piece.
+    /// A wrapped x has two pieces, from minus infinity to its high and from its low to infinity; any
+    /// other is one piece. So what is empty is contained by every x, and what has NaN by none; and
+    /// since the pieces are infinite, of the x that do not wrap only the full one contains one that does.
     ///
     /// ```
     /// # use johikape::WraparoundInterval;
     /// let antimeridian = WraparoundInterval::new(170.0, -170.0);
     /// assert!(antimeridian.contains(WraparoundInterval::new(-178.0, -175.0)));
-    /// assert!(!antimeridian.contains(WraparoundInterval::new(175.0, 178.0)));
+    /// assert!(antimeridian.contains(WraparoundInterval::new(175.0, 178.0)));
+    /// assert!(antimeridian.contains(WraparoundInterval::new(175.0, -175.0)));
+    /// assert!(!WraparoundInterval::new(-180.0, 180.0).contains(antimeridian));
     /// ```
     pub fn contains(self, other: WraparoundInterval) -> bool {
         raw::johikape_x_contains(self.ends(), other.ends())

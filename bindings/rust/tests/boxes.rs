@@ -101,10 +101,12 @@ fn a_box_contains_by_both_ends() {
 }
 
 #[test]
-fn a_wrapped_x_contains_by_its_left_piece_alone() {
+fn a_wrapped_x_contains_by_either_piece() {
     let strip = BoundingBox::xy((170.0, -170.0), (0.0, 1.0));
     assert!(strip.contains(&BoundingBox::xy((-178.0, -175.0), (0.0, 1.0))));
-    assert!(!strip.contains(&BoundingBox::xy((175.0, 178.0), (0.0, 1.0))));
+    assert!(strip.contains(&BoundingBox::xy((175.0, 178.0), (0.0, 1.0))));
+    assert!(!strip.contains(&BoundingBox::xy((175.0, 178.0), (0.0, 2.0))));
+    assert!(!strip.contains(&BoundingBox::xy((165.0, 178.0), (0.0, 1.0))));
 }
 
 #[test]

@@ -85,6 +85,17 @@ fn covers_asks_whether_the_column_contains_the_literal() {
 }
 
 #[test]
+fn covers_reaches_across_the_antimeridian() {
+    let islands = [record(170.0, -170.0)];
+    for (low, high) in [(175.0, 178.0), (-178.0, -175.0), (175.0, -175.0)] {
+        let filter = Filter::covers(Column::at(0), strip(low, high));
+        assert_eq!(ask(&filter, &islands), Ok(MayMatch), "{low} {high}");
+    }
+    let west = Filter::covers(Column::at(0), strip(160.0, 178.0));
+    assert_eq!(ask(&west, &islands), Ok(CannotMatch));
+}
+
+#[test]
 fn has_z_asks_whether_a_type_has_z() {
     let cases = [
         (None, MayMatch),

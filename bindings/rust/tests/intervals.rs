@@ -135,12 +135,18 @@ fn a_wrapped_x_intersects_by_either_piece() {
 }
 
 #[test]
-fn a_wrapped_x_contains_a_plain_one_by_its_left_piece_alone() {
-    assert!(x(170.0, -170.0).contains(x(-178.0, -175.0)));
-    assert!(!x(170.0, -170.0).contains(x(175.0, 178.0)));
-    assert!(x(170.0, -170.0).contains(x(175.0, -175.0)));
+fn an_x_contains_what_lies_piece_by_piece_in_its_pieces() {
+    let strip = x(170.0, -170.0);
+    assert!(strip.contains(x(-178.0, -175.0)));
+    assert!(strip.contains(x(175.0, 178.0)));
+    assert!(strip.contains(x(175.0, -175.0)));
+    assert!(strip.contains(WraparoundInterval::empty()));
+    assert!(!strip.contains(x(160.0, 178.0)));
+    assert!(!strip.contains(x(169.0, -170.0)));
+    assert!(!strip.contains(x(175.0, NAN)));
     assert!(x(0.0, 9.0).contains(x(3.0, 9.0)));
-    assert!(!x(-180.0, 180.0).contains(x(170.0, -170.0)));
+    assert!(!x(-180.0, 180.0).contains(strip));
+    assert!(WraparoundInterval::full().contains(strip));
 }
 
 #[test]

@@ -26,7 +26,7 @@ use Rattle.sedona_expr.proofs.Reaches.{Literal, Literals, reaches}
 may-match-folds : (l : Lookup) (t : Table) (r : Records) (row : Row) (lists : ℕ → List GeoStatistics) → Wanted l t r row lists → MayMatch l t r
 unfolding outcome
 may-match-folds l t r row lists W =
-    rw (W .wellFormed, may-match (λ c. row (place l c)) (λ c. recordAt r (place l c)) (λ c. lists (place l c)) (root t) (W .folds) (W .under) (W .holds))
+    rw (W .wellFormed, may-match (λ c. row (place l c)) (λ c. recordAt r (place l c)) (λ c. lists (place l c)) (root t) (W .folds) (W .holds))
 
 -- ---- the second half
 module _ (l : Lookup) (t : Table) (r : Records) (row : Row) (names : List ℕ) (P : Pointed l t r row names) where

@@ -12,7 +12,7 @@ use Rattle.sedona_geometry.specs.declared.bounding_box.BoundingBox.{BoundingBox
 use Rattle.sedona_expr.specs.Statistics.{All}
 use Rattle.sedona_expr.specs.SpatialFilter.{Column, Filter, intersects, covers, hasZ, and, or, literalFalse, unknown}
 use Rattle.sedona_expr.specs.Tables.{Boxes, hasBox, intervalAt, boxWith, boxAt, orEmpty, Table, kind, word, isLeaf, isPair, areBelow, leafOf, pairOf, treeOf, treesBelow, treeAt, knowsZ, knowsM}
-use Rattle.sedona_expr.specs.Demand.{Leaf, anIntersects, aCovers, aHasZ, EachLeaf, OfLiteral}
+use Rattle.sedona_expr.specs.Demand.{Leaf, ofBox, aHasZ, EachLeaf, OfLiteral}
 use Rattle.sedona_expr.proofs.StraightBoxes.{empty-straight}
 
 -- ---- either of two, and any of a list
@@ -27,8 +27,8 @@ of-getD P (x ∷ xs) (suc i) p h = of-getD P xs i p (h .1)
 
 -- ---- what follows from two facts of a leaf
 pub leaves-zip : (P Q R : Leaf → Column → Type 0) → ((l : Leaf) (c : Column) → P l c → Q l c → R l c) → (f : Filter) → EachLeaf P f → EachLeaf Q f → EachLeaf R f
-leaves-zip P Q R g (intersects c k) p q = g (anIntersects k) c p q
-leaves-zip P Q R g (covers c k) p q = g (aCovers k) c p q
+leaves-zip P Q R g (intersects c k) p q = g (ofBox k) c p q
+leaves-zip P Q R g (covers c k) p q = g (ofBox k) c p q
 leaves-zip P Q R g (hasZ c) p q = g aHasZ c p q
 leaves-zip P Q R g (and f h) p q = (leaves-zip P Q R g f (p .0) (q .0), leaves-zip P Q R g h (p .1) (q .1))
 leaves-zip P Q R g (or f h) p q = (leaves-zip P Q R g f (p .0) (q .0), leaves-zip P Q R g h (p .1) (q .1))
@@ -36,8 +36,7 @@ leaves-zip P Q R g literalFalse p q = tt
 leaves-zip P Q R g unknown p q = tt
 
 pub literal-zip : (P Q R : BoundingBox → Type 0) → ((k : BoundingBox) → P k → Q k → R k) → (l : Leaf) → OfLiteral P l → OfLiteral Q l → OfLiteral R l
-literal-zip P Q R g (anIntersects k) p q = g k p q
-literal-zip P Q R g (aCovers k) p q = g k p q
+literal-zip P Q R g (ofBox k) p q = g k p q
 literal-zip P Q R g aHasZ p q = tt
 
 pub literal-map : (P R : BoundingBox → Type 0) → ((k : BoundingBox) → P k → R k) → (l : Leaf) → OfLiteral P l → OfLiteral R l

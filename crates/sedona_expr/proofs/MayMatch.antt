@@ -1,6 +1,6 @@
 -- The first half of demand 3: against the folds of its columns' records, the filter of a row of which it holds may match. Assumes nothing.
 use mathlib.Core.Path.{_≡_, refl}
-use mathlib.Core.Logic.{inl, inr}
+use mathlib.Core.Logic.{_⊎_, inl, inr, ⊎-elim}
 use mathlib.Core.Bool.{true, _||_}
 use mathlib.Core.List.{List, [], _∷_}
 use Rattle.sedona_geometry.specs.Interval as interval
@@ -11,17 +11,15 @@ use Rattle.sedona_geometry.specs.declared.bounding_box.Dimension.{Dimension}
 use Rattle.sedona_geometry.specs.declared.bounding_box.BoundingBox.{BoundingBox}
 use Rattle.sedona_geometry.proofs.Order.{holds, is-true, or-right}
 use Rattle.sedona_geometry.proofs.Boxes as boxes
-use Rattle.sedona_expr.specs.Statistics.{All, DoublesWhereKnown, NoLess, mergeParts, fold}
+use Rattle.sedona_expr.specs.Statistics.{All, DoublesWhereKnown, NoLess, mergeBboxes, mergeParts, fold}
 use Rattle.sedona_expr.specs.SpatialFilter.{Column, Filter, intersects, covers, hasZ, and, or, literalFalse, unknown, mayIntersect, mayCover, mayHaveZ, answer}
-use Rattle.sedona_expr.specs.Demand.{Cell, HasBox, MissingOrRising, HoldsZ, Holds, Leaf, aCovers, aHasZ, EachLeaf, Some, Folds, UnderCovers, WhereBox, HasBit}
+use Rattle.sedona_expr.specs.Demand.{Cell, HasBox, MissingOrRising, HoldsZ, Holds, Leaf, aHasZ, EachLeaf, Some, Folds, HasBit}
 use Rattle.sedona_expr.specs.declared.statistics.Bbox as Bbox
 use Rattle.sedona_expr.specs.declared.statistics.Bbox.{Bbox}
 use Rattle.sedona_expr.specs.declared.statistics.GeoStatistics.{GeoStatistics}
 use Rattle.sedona_expr.specs.declared.tables.ColumnRecord.{ColumnRecord}
 use Rattle.sedona_expr.proofs.Folds.{some-map, fold-keeps}
 use Rattle.sedona_expr.proofs.HasZ.{fold-bit, fold-z, may-have-z}
-use Rattle.sedona_expr.proofs.Points.{ordered}
-use Rattle.sedona_expr.proofs.StraightBoxes.{StraightBox, Unwrapped, straight-where, Holding, fold-holding}
 use Rattle.sedona_expr.proofs.Theorems.{merge-doubles, no-box-shrinks}
 
 -- ---- lists of records
@@ -34,10 +32,6 @@ of-own P (s ∷ rs) h (inr a) = of-own P rs (h .1) a
 -- and what is so of the row's box is so of some record's
 some-own : (P : Bbox → Type 0) (rs : List GeoStatistics) {own : Bbox} → P own → Some (λ s. s .bbox ≡ own) rs → Some (λ s. P (s .bbox)) rs
 some-own P rs {own} h = some-map (λ s. s .bbox ≡ own) (λ s. P (s .bbox)) rs (λ s e. rw e h)
-
-all-zip : {A : Type 0} (P Q R : A → Type 0) (xs : List A) → ((x : A) → P x → Q x → R x) → All P xs → All Q xs → All R xs
-all-zip P Q R [] f p q = tt
-all-zip P Q R (x ∷ xs) f p q = (f x (p .0) (q .0), all-zip P Q R xs f (p .1) (q .1))
 
 -- ---- an Intersects: a common number with the row's box is one with the fold's
 common-interval : {l i j : Interval} → boundingBox.AcceptsAllOf l i → interval.Common i j → interval.Common l j
@@ -64,14 +58,19 @@ may-intersect (Bbox.Known c) Bbox.Missing k n h = absurd h
 may-intersect (Bbox.Known c) (Bbox.Known b) k n h = boxes.common-intersect (common-no-less n h)
 
 -- ---- a Covers: a literal that the row's box contains, the fold's box contains
-contains-parts : (o : Bbox) (k : BoundingBox) → HasBox (λ b. boundingBox.contains b k ≡ true) o → Holding k o
-contains-parts Bbox.Missing k h = absurd h
-contains-parts (Bbox.Known b) k h = boxes.parts h
+abbrev Covering : BoundingBox → Bbox → Type 0
+Covering k = HasBox (λ b. boundingBox.contains b k ≡ true)
 
-may-cover : (o : Bbox) (k : BoundingBox) → Holding k o → mayCover o k ≡ true
+merge-covering : (k : BoundingBox) (a b : Bbox) → DoublesWhereKnown a → DoublesWhereKnown b → Covering k a ⊎ Covering k b → Covering k (mergeBboxes a b)
+unfolding mergeBboxes
+merge-covering k Bbox.Missing b D E h = ⊎-elim (λ p. absurd p) (λ q. q) h
+merge-covering k (Bbox.Known a) Bbox.Missing D E h = ⊎-elim (λ p. p) (λ q. absurd q) h
+merge-covering k (Bbox.Known a) (Bbox.Known b) D E h = boxes.whole (boxes.merge-contains D E (⊎-elim (λ p. inl (boxes.parts p)) (λ q. inr (boxes.parts q)) h))
+
+may-cover : (o : Bbox) (k : BoundingBox) → Covering k o → mayCover o k ≡ true
 unfolding mayCover
 may-cover Bbox.Missing k h = refl
-may-cover (Bbox.Known b) k h = boxes.whole h
+may-cover (Bbox.Known b) k h = h
 
 -- ---- the leaves
 module _ {f : Leaf} {rs : List GeoStatistics} {own : Cell} {lent : ColumnRecord} (F : Folds f rs own lent) where
@@ -81,20 +80,16 @@ module _ {f : Leaf} {rs : List GeoStatistics} {own : Cell} {lent : ColumnRecord}
   fold-no-less : NoLess (lent .bbox) (own .bbox)
   fold-no-less = rw (F .folded) (of-own (NoLess (fold rs .rec .bbox)) rs (no-box-shrinks rs (F .doubles) (F .fit)) own-box)
 
-  fold-covers : (k : BoundingBox) → UnderCovers (aCovers k) rs → Holding k (own .bbox) → Holding k (lent .bbox)
-  fold-covers k u h =
+  -- what merging two boxes keeps, the fold keeps
+  kept : (P : Bbox → Type 0) → ((a b : Bbox) → DoublesWhereKnown a → DoublesWhereKnown b → P a ⊎ P b → P (mergeBboxes a b)) → P (own .bbox) → P (lent .bbox)
+  unfolding mergeParts
+  kept P keep h =
       rw (F .folded)
-      (fold-holding k (ordered (k .x .inner) (u .1)) rs
-      (all-zip (λ s. DoublesWhereKnown (s .bbox)) (λ s. WhereBox Unwrapped (s .bbox)) (λ s. WhereBox StraightBox (s .bbox)) rs (λ s. straight-where (s .bbox)) (F .doubles) (u .0))
-      (F .fit)
-      (some-own (Holding k) rs h own-box))
+      (fold-keeps (λ s. DoublesWhereKnown (s .bbox)) (λ s. P (s .bbox)) (λ a b. merge-doubles (a .bbox) (b .bbox)) (λ a b. keep (a .bbox) (b .bbox)) rs (F .doubles) (F .fit)
+      (some-own P rs h own-box))
 
   fold-doubles : DoublesWhereKnown (lent .bbox)
-  unfolding mergeParts
-  fold-doubles =
-      let D : GeoStatistics → Type 0 = λ s. DoublesWhereKnown (s .bbox) in
-      let both : (a b : GeoStatistics) → D a → D b → D (mergeParts a b) = λ a b. merge-doubles (a .bbox) (b .bbox) in
-      rw (F .folded) (fold-keeps D D both (λ a b i j e. both a b i j) rs (F .doubles) (F .fit) (some-own DoublesWhereKnown rs (of-own DoublesWhereKnown rs (F .doubles) own-box) own-box))
+  fold-doubles = kept DoublesWhereKnown (λ a b D E h. merge-doubles a b D E) (of-own DoublesWhereKnown rs (F .doubles) own-box)
 
 -- A row of which HasZ holds "stays 'may match' in any fold that has its record": its z and its type's bit stay there.
 pub fold-has-z : {rs : List GeoStatistics} {own : Cell} {lent : ColumnRecord} → Folds aHasZ rs own lent → HoldsZ own → mayHaveZ lent ≡ true
@@ -105,13 +100,12 @@ fold-has-z {rs} {own} {lent} F h =
 
 -- ---- the whole filter
 module _ (own : Column → Cell) (lent : Column → ColumnRecord) (lists : Column → List GeoStatistics) where
-  pub may-match : (f : Filter) → EachLeaf (λ l c. Folds l (lists c) (own c) (lent c)) f → EachLeaf (λ l c. UnderCovers l (lists c)) f
-      → Holds own f → answer lent f ≡ true
-  may-match (intersects c k) F u h = may-intersect (lent c .bbox) (own c .bbox) k (fold-no-less F) h
-  may-match (covers c k) F u h = may-cover (lent c .bbox) k (fold-covers F k u (contains-parts (own c .bbox) k h))
-  may-match (hasZ c) F u h = fold-has-z F h
-  may-match (and f g) F u h = rw (may-match f (F .0) (u .0) (h .0), may-match g (F .1) (u .1) (h .1))
-  may-match (or f g) F u (inl h) = rw (may-match f (F .0) (u .0) h)
-  may-match (or f g) F u (inr h) = is-true (answer lent f || answer lent g) (or-right (answer lent f) (answer lent g) (holds (may-match g (F .1) (u .1) h)))
-  may-match literalFalse F u h = absurd h
-  may-match unknown F u h = refl
+  pub may-match : (f : Filter) → EachLeaf (λ l c. Folds l (lists c) (own c) (lent c)) f → Holds own f → answer lent f ≡ true
+  may-match (intersects c k) F h = may-intersect (lent c .bbox) (own c .bbox) k (fold-no-less F) h
+  may-match (covers c k) F h = may-cover (lent c .bbox) k (kept F (Covering k) (merge-covering k) h)
+  may-match (hasZ c) F h = fold-has-z F h
+  may-match (and f g) F h = rw (may-match f (F .0) (h .0), may-match g (F .1) (h .1))
+  may-match (or f g) F (inl h) = rw (may-match f (F .0) h)
+  may-match (or f g) F (inr h) = is-true (answer lent f || answer lent g) (or-right (answer lent f) (answer lent g) (holds (may-match g (F .1) h)))
+  may-match literalFalse F h = absurd h
+  may-match unknown F h = refl

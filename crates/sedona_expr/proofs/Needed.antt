@@ -3,17 +3,18 @@ use mathlib.Core.Path.{_≡_, refl}
 use mathlib.Core.Bool.{true, false}
 use Prim.Native.Nat.{ℕ, _^_}
 use lib.IntN.{pos}
-use lib.Ieee.{Float, nan, inf, binary64, add, sub, div, neg, lt, le, eq, isNan, round, ofInt}
+use lib.Ieee.{Float, nan, inf, binary64, add, sub, div, lt, le, eq, isNan, round, ofInt}
 use Rattle.sedona_geometry.specs.Float.{minNum, maxNum, abs}
 use Rattle.sedona_geometry.specs.Interval as interval
 use Rattle.sedona_geometry.specs.WraparoundInterval as wraparound
-use Rattle.sedona_geometry.specs.BoundingBox.{xy, xyzm, testKnown, joinKnown, contains, mergeBox}
+use Rattle.sedona_geometry.specs.BoundingBox.{xy, xyzm, testKnown, joinKnown, contains, mergeBox, withX, intersection}
 use Rattle.sedona_geometry.specs.Types.{fromBits}
 use Rattle.sedona_geometry.specs.declared.bounding_box.Dimension as Dimension
 use Rattle.sedona_geometry.specs.declared.bounding_box.Dimension.{Dimension}
 use Rattle.sedona_geometry.specs.declared.bounding_box.BoundingBox.{BoundingBox}
 use Rattle.sedona_expr.specs.Statistics.{mergeBboxes, mergeTypes}
-use Rattle.sedona_expr.specs.SpatialFilter.{isZ, hasZType, mayBeZ, isKnownEmpty, hasEmptyZ, mayHaveZ}
+use Rattle.sedona_expr.specs.SpatialFilter.{Filter, intersects, covers, and, or, boxFor, orFull, isZ, hasZType, mayBeZ, isKnownEmpty, hasEmptyZ, mayHaveZ}
+use Rattle.sedona_expr.specs.Tables.{column}
 use Rattle.sedona_expr.specs.declared.statistics.Bbox as Bbox
 use Rattle.sedona_expr.specs.declared.statistics.Bbox.{Bbox}
 use Rattle.sedona_expr.specs.declared.statistics.GeometryTypes as GeometryTypes
@@ -31,22 +32,19 @@ of-x lo hi = xy (wraparound.new lo hi) (interval.new (plus 0) (plus 1))
 abbrev of-y : Float → Float → BoundingBox
 of-y lo hi = xy (wraparound.new (plus 0) (plus 1)) (interval.new lo hi)
 
--- "no record's x wraps": merged with one that does, a box no longer contains what it contained (P4).
-pub a-wrapped-record : (contains (of-x (plus 175) (plus 178)) (of-x (plus 175) (plus 178)) ≡ true)
-    × (contains (mergeBox (of-x (plus 175) (plus 178)) (of-x (plus 170) (neg (plus 170)))) (of-x (plus 175) (plus 178)) ≡ false)
-unfolding add sub div neg lt le eq isNan round ofInt minNum maxNum abs interval.intersectsInterval interval.containsInterval interval.isEmpty interval.mergeInterval wraparound.isWraparound wraparound.split wraparound.mid wraparound.containsInterval wraparound.fromPieces wraparound.nearerLeft wraparound.mergePlain wraparound.mergeNonEmpty wraparound.mergeInterval testKnown joinKnown contains mergeBox
-a-wrapped-record = (refl, refl)
-
--- "or has NaN": two x that do not wrap merge to one that does.
-pub two-with-nan : (wraparound.isWraparound (wraparound.new (plus 5) nan) ≡ false) × (wraparound.isWraparound (wraparound.new nan (plus 3)) ≡ false)
-    × (wraparound.isWraparound (wraparound.mergeInterval (wraparound.new (plus 5) nan) (wraparound.new nan (plus 3))) ≡ true)
-unfolding sub lt eq isNan round ofInt minNum maxNum interval.isEmpty interval.mergeInterval wraparound.isWraparound wraparound.mergeNonEmpty wraparound.mergeInterval
-two-with-nan = (refl, refl, refl)
-
 -- "all literals run low to high": a point contains one that falls, which does not contain the point.
 pub a-falling-literal : (contains (of-y (plus 4) (plus 4)) (of-y (plus 5) (plus 3)) ≡ true) × (contains (of-y (plus 5) (plus 3)) (of-y (plus 4) (plus 4)) ≡ false)
-unfolding sub lt le eq isNan round ofInt interval.containsInterval interval.isEmpty wraparound.isWraparound wraparound.split wraparound.containsInterval testKnown contains
+unfolding sub lt le eq isNan round ofInt interval.containsInterval interval.isEmpty wraparound.isWraparound wraparound.split wraparound.piecesContain wraparound.containsInterval testKnown contains
 a-falling-literal = (refl, refl)
+
+-- The same of x, where a literal wraps. The filter holds of the point 10, by its two Intersects, and its box is (20, 0).
+abbrev in-column-0 : BoundingBox → Filter
+in-column-0 k = or (intersects (column 0 0) (of-x (plus 10) (plus 10))) (covers (column 0 0) k)
+
+pub a-wrapped-literal : (boxFor 0 (and (in-column-0 (of-x (plus 20) (plus 5))) (in-column-0 (of-x (plus 15) (plus 0)))) ≡ of-x (plus 20) (plus 0))
+    × (contains (of-x (plus 20) (plus 0)) (of-x (plus 10) (plus 10)) ≡ false)
+unfolding add sub div lt le eq isNan round ofInt minNum maxNum abs interval.intersectsInterval interval.containsInterval interval.isEmpty interval.mergeInterval interval.intersection wraparound.isWraparound wraparound.split wraparound.mid wraparound.piecesContain wraparound.containsInterval wraparound.fromPieces wraparound.nearerLeft wraparound.mergePlain wraparound.mergeNonEmpty wraparound.mergeInterval wraparound.intersectWrapped wraparound.intersection testKnown joinKnown contains mergeBox withX intersection orFull
+a-wrapped-literal = (refl, refl)
 
 -- A box with z.
 abbrev of-z : Float → Float → Bbox

@@ -1,5 +1,5 @@
 -- A point, and what contains it: all there is, a literal that has a common number with it, and a literal that it contains. Assumes nothing.
-use mathlib.Core.Path.{_≡_, refl}
+use mathlib.Core.Path.{_≡_, refl, sym, _∙_}
 use mathlib.Core.Bool.{true, false}
 use Rattle.sedona_geometry.specs.Interval as interval
 use Rattle.sedona_geometry.specs.BoundingBox as boundingBox
@@ -10,8 +10,9 @@ use Rattle.sedona_geometry.specs.declared.bounding_box.Dimension.{Dimension}
 use Rattle.sedona_geometry.specs.declared.bounding_box.BoundingBox.{BoundingBox}
 use Rattle.sedona_geometry.proofs.Order.{infinite, Le, holds, le-of-eq, le-back, le-trans, le-number, bottom, top}
 use Rattle.sedona_geometry.proofs.Accepts as plain
+use Rattle.sedona_geometry.proofs.Accepts.{Contains, inside, contains}
 use Rattle.sedona_geometry.proofs.Wrapping.{low-to-high-plain, plain-of-accepts, infinite-doubles}
-use Rattle.sedona_geometry.proofs.Contains.{Contains, inside, contains, contains-plain, plain-contains}
+use Rattle.sedona_geometry.proofs.Contains.{contains-low-to-high}
 use Rattle.sedona_geometry.proofs.Boxes.{Parts, LowToHigh, LowToHighWhereKnown}
 use Rattle.sedona_expr.specs.SpatialFilter.{full}
 use Rattle.sedona_expr.specs.Demand.{WhereKnown, Each, isPoint, lowToHigh}
@@ -55,8 +56,8 @@ full-contains p = contains (bottom (le-number (p .up) .0)) (top (le-number (p .u
 
 pub full-reaches : {b : BoundingBox} → Doubles b → Each Point b → Parts full b
 unfolding testKnown
-full-reaches D p = record {
-  x = plain-contains _ _ (low-to-high-plain (infinite-doubles true false) (bottom infinite)) (low-to-high-plain (D .x) (p .x .up)) (full-contains (p .x));
+full-reaches {b} D p = record {
+  x = contains-low-to-high (full .x) (b .x) (D .x) (low-to-high-plain (infinite-doubles true false) (bottom infinite)) (p .x .up) ∙ full-contains (p .x) .holds;
   y = full-contains (p .y);
   z = refl;
   m = refl;
@@ -79,7 +80,7 @@ module _ (R : Interval → Interval → Type 0) (turn : (i j : Interval) → Poi
 
   turned : {b k : BoundingBox} → Doubles b → Doubles k → Each Point b → Each Ordered k → Pair R b k → Parts k b
   turned {b} {k} D E p l r = record {
-    x = plain-contains _ _ (low-to-high-plain (E .x) (l .x)) (low-to-high-plain (D .x) (p .x .up)) (turn (b .x .inner) (k .x .inner) (p .x) (l .x) (r .x));
+    x = contains-low-to-high (k .x) (b .x) (D .x) (low-to-high-plain (E .x) (l .x)) (p .x .up) ∙ turn (b .x .inner) (k .x .inner) (p .x) (l .x) (r .x) .holds;
     y = turn (b .y) (k .y) (p .y) (l .y) (r .y);
     z = dimension-turned (k .z) (b .z) (l .z) (p .z) (r .z);
     m = dimension-turned (k .m) (b .m) (l .m) (p .m) (r .m);
@@ -121,7 +122,7 @@ known-contains (Dimension.Known i) (Dimension.Known j) h = record { holds = h }
 pub contained-reaches : {b k : BoundingBox} → Doubles b → Doubles k → Each Point b → Each Ordered k → Parts b k → Parts k b
 contained-reaches {b} {k} D E p l c =
     turned Contains contained-contains D E p l (record {
-      x = contains-plain _ _ (low-to-high-plain (D .x) (p .x .up)) (c .x) .1;
+      x = record { holds = sym (contains-low-to-high (b .x) (k .x) (E .x) (low-to-high-plain (D .x) (p .x .up)) (l .x)) ∙ c .x };
       y = c .y;
       z = known-contains (b .z) (k .z) (c .z);
       m = known-contains (b .m) (k .m) (c .m);

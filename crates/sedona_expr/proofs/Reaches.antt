@@ -9,14 +9,14 @@ use Rattle.sedona_geometry.specs.BoundingBox as boundingBox
 use Rattle.sedona_geometry.specs.BoundingBox.{Doubles}
 use Rattle.sedona_geometry.specs.declared.bounding_box.BoundingBox.{BoundingBox}
 use Rattle.sedona_geometry.proofs.Contains.{Straight}
-use Rattle.sedona_geometry.proofs.Boxes.{Parts, parts}
+use Rattle.sedona_geometry.proofs.Boxes.{Parts, parts, merge-contains}
 use Rattle.sedona_expr.specs.SpatialFilter.{Column, Filter, intersects, covers, hasZ, and, or, literalFalse, unknown, full, boxFor}
 use Rattle.sedona_expr.specs.Demand.{Cell, HasBox, Holds, EachLeaf, OfLiteral, Each}
 use Rattle.sedona_expr.specs.declared.statistics.Bbox as Bbox
 use Rattle.sedona_expr.specs.declared.statistics.Bbox.{Bbox}
 use Rattle.sedona_expr.proofs.Leaves.{of-cond}
 use Rattle.sedona_expr.proofs.Points.{Point, Ordered, point-low-to-high, full-reaches, common-reaches, contained-reaches}
-use Rattle.sedona_expr.proofs.StraightBoxes.{StraightBox, empty-straight, full-straight, merge-straight, intersection-straight, merge-contains, intersection-contains}
+use Rattle.sedona_expr.proofs.StraightBoxes.{StraightBox, empty-straight, full-straight, merge-straight, intersection-straight, intersection-contains}
 
 -- ---- the literals asked for
 pub record Literal (k : BoundingBox) : Type 0 where
@@ -56,9 +56,9 @@ module _ (n : ℕ) (own : Column → Cell) (b : BoundingBox) (D : Doubles b) (p 
   reaches (covers c k) L e h = leaf-reaches c k (λ a. boundingBox.contains a k ≡ true) e (λ a. contained-reaches D (L .doubles) p (L .ordered) (parts a)) h
   reaches (hasZ c) L e h = full-reaches D p
   reaches (and f g) L e h =
-      intersection-contains (box-straight n f (L .0)) (box-straight n g (L .1)) (point-low-to-high p) (reaches f (L .0) (e .0) (h .0)) (reaches g (L .1) (e .1) (h .1))
+      intersection-contains (box-straight n f (L .0)) (box-straight n g (L .1)) D (point-low-to-high p) (reaches f (L .0) (e .0) (h .0)) (reaches g (L .1) (e .1) (h .1))
   reaches (or f g) L e h =
-      merge-contains (box-straight n f (L .0)) (box-straight n g (L .1)) (p .x .up)
+      merge-contains (box-straight n f (L .0) .doubles) (box-straight n g (L .1) .doubles)
       (⊎-elim (λ a. inl (reaches f (L .0) (e .0) a)) (λ a. inr (reaches g (L .1) (e .1) a)) h)
   reaches literalFalse L e h = absurd h
   reaches unknown L e h = full-reaches D p

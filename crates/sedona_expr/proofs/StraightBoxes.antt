@@ -1,31 +1,21 @@
--- Boxes whose x runs straight, empty or low to high: merging and intersecting keep them so, and a fold of them contains what one of its records
--- contains. Assumes nothing.
+-- Boxes whose x runs straight, empty or low to high: merging and intersecting keep them so, and an intersection contains what both contain.
+-- Assumes nothing.
 use mathlib.Core.Path.{_≡_, refl}
-use mathlib.Core.Logic.{_⊎_, ⊎-elim}
 use mathlib.Core.Bool.{true, false}
-use mathlib.Core.List.{List}
 use lib.Ieee.{eq, sub}
 use Rattle.sedona_geometry.specs.Interval as interval
-use Rattle.sedona_geometry.specs.WraparoundInterval as wraparound
 use Rattle.sedona_geometry.specs.BoundingBox as boundingBox
 use Rattle.sedona_geometry.specs.BoundingBox.{Doubles, DoublesWhereKnown, joinKnown, intersectDimensions, mergeBox}
 use Rattle.sedona_geometry.specs.declared.bounding_box.Dimension as Dimension
 use Rattle.sedona_geometry.specs.declared.bounding_box.Dimension.{Dimension}
 use Rattle.sedona_geometry.specs.declared.bounding_box.BoundingBox.{BoundingBox}
-use Rattle.sedona_geometry.proofs.Order.{infinite, Le, bottom}
+use Rattle.sedona_geometry.proofs.Order.{infinite, bottom}
 use Rattle.sedona_geometry.proofs.Wrapping.{infinite-doubles}
 use Rattle.sedona_geometry.proofs.Contains as containing
 use Rattle.sedona_geometry.proofs.Contains.{Straight}
 use Rattle.sedona_geometry.proofs.Boxes as boxes
 use Rattle.sedona_geometry.proofs.Boxes.{Parts, met}
-use Rattle.sedona_expr.specs.Statistics as statistics
-use Rattle.sedona_expr.specs.Statistics.{All, mergeBboxes, mergeParts, fold}
 use Rattle.sedona_expr.specs.SpatialFilter.{full, orFull}
-use Rattle.sedona_expr.specs.Demand.{WhereBox, HasBox, Some}
-use Rattle.sedona_expr.specs.declared.statistics.Bbox as Bbox
-use Rattle.sedona_expr.specs.declared.statistics.Bbox.{Bbox}
-use Rattle.sedona_expr.specs.declared.statistics.GeoStatistics.{GeoStatistics}
-use Rattle.sedona_expr.proofs.Folds.{fold-keeps}
 
 pub record StraightBox (b : BoundingBox) : Type 0 where
   pub doubles : Doubles b
@@ -82,41 +72,6 @@ pub intersection-straight : {a b : BoundingBox} → StraightBox a → StraightBo
 intersection-straight s t = rw (meets s t) (met-straight s t)
 
 -- ---- what they contain
-pub merge-contains : {a b k : BoundingBox} → StraightBox a → StraightBox b → Le (k .x .inner .lo) (k .x .inner .hi) → Parts a k ⊎ Parts b k → Parts (mergeBox a b) k
-merge-contains s t l h = boxes.merge-contains (s .doubles) (t .doubles) (s .x) (t .x) l h
-
-pub intersection-contains : {a b k : BoundingBox} → StraightBox a → StraightBox b → boxes.LowToHigh k → Parts a k → Parts b k → Parts (orFull (boundingBox.intersection a b)) k
-intersection-contains s t l p q = rw (meets s t) (boxes.intersection-contains (s .doubles) (t .doubles) (s .x) (t .x) l p q)
-
--- ---- boxes of records, where there are any
--- x does not wrap and has no NaN
-abbrev pub Unwrapped : BoundingBox → Type 0
-Unwrapped b = (wraparound.isWraparound (b .x) ≡ false) × (interval.hasNan (b .x .inner) ≡ false)
-
-pub straight-where : (b : Bbox) → statistics.DoublesWhereKnown b → WhereBox Unwrapped b → WhereBox StraightBox b
-straight-where Bbox.Missing D h = tt
-straight-where (Bbox.Known b) D h = record { doubles = D; x = containing.straight (D .x) (h .0) (h .1) }
-
-merge-straight-where : (a b : Bbox) → WhereBox StraightBox a → WhereBox StraightBox b → WhereBox StraightBox (mergeBboxes a b)
-unfolding mergeBboxes
-merge-straight-where Bbox.Missing b s t = t
-merge-straight-where (Bbox.Known a) Bbox.Missing s t = s
-merge-straight-where (Bbox.Known a) (Bbox.Known b) s t = merge-straight s t
-
--- there is a box, and it contains k
-abbrev pub Holding : BoundingBox → Bbox → Type 0
-Holding k = HasBox (λ b. Parts b k)
-
-module _ (k : BoundingBox) (l : Le (k .x .inner .lo) (k .x .inner .hi)) where
-  merge-holding : (a b : Bbox) → WhereBox StraightBox a → WhereBox StraightBox b → Holding k a ⊎ Holding k b → Holding k (mergeBboxes a b)
-  unfolding mergeBboxes
-  merge-holding Bbox.Missing b s t h = ⊎-elim (λ p. absurd p) (λ q. q) h
-  merge-holding (Bbox.Known a) Bbox.Missing s t h = ⊎-elim (λ p. p) (λ q. absurd q) h
-  merge-holding (Bbox.Known a) (Bbox.Known b) s t h = merge-contains s t l h
-
-  -- What runs low to high in x and is contained in a record's box, the fold's box contains.
-  pub fold-holding : (rs : List GeoStatistics) → All (λ r. WhereBox StraightBox (r .bbox)) rs → fold rs .number ≡ 0
-      → Some (λ r. Holding k (r .bbox)) rs → Holding k (fold rs .rec .bbox)
-  unfolding mergeParts
-  fold-holding =
-      fold-keeps (λ r. WhereBox StraightBox (r .bbox)) (λ r. Holding k (r .bbox)) (λ a b. merge-straight-where (a .bbox) (b .bbox)) (λ a b. merge-holding (a .bbox) (b .bbox))
+pub intersection-contains : {a b k : BoundingBox} → StraightBox a → StraightBox b → Doubles k → boxes.LowToHigh k → Parts a k → Parts b k
+    → Parts (orFull (boundingBox.intersection a b)) k
+intersection-contains s t F l p q = rw (meets s t) (boxes.intersection-contains (s .doubles) (t .doubles) F (s .x) (t .x) l p q)

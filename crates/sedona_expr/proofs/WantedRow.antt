@@ -1,7 +1,7 @@
 -- The hypotheses of demand 3 can be met, for each call and for each half: And of (Or of an Intersects of column 0 and a LiteralFalse), of a Covers
 -- of column 1 and of (Or of a HasZ of column 0, which holds, and one of column 1, which does not); a row that is a point in both, and in a third
 -- column, for which no record is lent; for column 0 three records, one of them without a box and types and one wrapped; and for column 1 two
--- records without types. Assumes nothing.
+-- records without types. And for the first half alone a Covers whose literal wraps, of a row that wraps, beside a record with NaN. Assumes nothing.
 use mathlib.Core.Path.{_≡_, refl, sym}
 use mathlib.Core.Bool.{true}
 use mathlib.Core.Logic.{inl, inr}
@@ -9,7 +9,7 @@ use mathlib.Core.List.{List, [], _∷_}
 use Prim.Native.Nat.{ℕ, zero, suc, _^_}
 use native.Mathlib.Omega.{arith}
 use lib.IntN.{pos}
-use lib.Ieee.{Float, binary64, fits, add, sub, div, neg, lt, le, eq, isNan, round, ofInt}
+use lib.Ieee.{Float, nan, binary64, fits, add, sub, div, neg, lt, le, eq, isNan, round, ofInt}
 use Rattle.sedona_geometry.specs.Float.{minNum, maxNum, abs}
 use Rattle.sedona_geometry.specs.Interval as interval
 use Rattle.sedona_geometry.specs.WraparoundInterval as wraparound
@@ -24,7 +24,7 @@ use Rattle.sedona_expr.specs.SpatialFilter.{isZ, mayHaveZ}
 use Rattle.sedona_expr.specs.Tables as tables
 use Rattle.sedona_expr.specs.Refusals as refusals
 use Rattle.sedona_expr.specs.Tables.{Records, Table, Lookup, byPosition, byName}
-use Rattle.sedona_expr.specs.Demand.{Row, WhereBox, Leaf, aHasZ, Beside, Folds, Wanted, Each, isPoint, Numbers, Pointed, MayMatch, Reaches}
+use Rattle.sedona_expr.specs.Demand.{Row, WhereBox, Leaf, ofBox, aHasZ, Beside, Folds, Wanted, Each, isPoint, Numbers, Pointed, MayMatch, Reaches}
 use Rattle.sedona_expr.specs.declared.statistics.Bbox as Bbox
 use Rattle.sedona_expr.specs.declared.statistics.Bbox.{Bbox}
 use Rattle.sedona_expr.specs.declared.statistics.GeometryTypes as GeometryTypes
@@ -161,7 +161,7 @@ row-point (suc i) = record { x = (refl, refl); y = (refl, refl); z = tt; m = tt 
 -- ---- the hypotheses, for any call that finds the two columns
 module _ (l : Lookup) (wellFormed : refusals.refusal l t r ≡ 0) (first : tables.place l (tables.column 0 7) ≡ 0) (second : tables.place l (tables.column 1 9) ≡ 1) where
   wanted : Wanted l t r row lists
-  unfolding isZ fits sub neg lt le eq isNan round ofInt interval.intersectsValue interval.containsInterval interval.isEmpty wraparound.isWraparound wraparound.split wraparound.intersectsValue wraparound.containsInterval boundingBox.testKnown boundingBox.contains tables.boxWith tables.boxAt tables.orEmpty tables.leafOf tables.pairOf tables.areBelow tables.treeOf tables.treeAt
+  unfolding isZ fits sub neg lt le eq isNan round ofInt interval.intersectsValue interval.containsInterval interval.isEmpty wraparound.isWraparound wraparound.split wraparound.intersectsValue wraparound.piecesContain wraparound.containsInterval boundingBox.testKnown boundingBox.contains tables.boxWith tables.boxAt tables.orEmpty tables.leafOf tables.pairOf tables.areBelow tables.treeOf tables.treeAt
   wanted = record {
     wellFormed = wellFormed;
     exist = rw (first, second) (((omega arith, tt), omega arith), (omega arith, omega arith));
@@ -178,7 +178,6 @@ module _ (l : Lookup) (wellFormed : refusals.refusal l t r ≡ 0) (first : table
       inl (record { z = refl; type = refl }),
     );
     folds = rw (first, second) (((folds-0 _ tt, tt), folds-1 _ tt), (folds-0 _ (λ h. refl), folds-1 _ (λ h. fails (sym (h .type)) tt)));
-    under = rw second (((tt, tt), (((refl, refl), ((refl, refl), tt)), refl)), (tt, tt));
   }
 
   pointed : Numbers l names → Pointed l t r row names
@@ -213,3 +212,39 @@ lent-numbers (suc (suc i)) h = absurd (omega arith)
 pub by-name : MayMatch (byName lent) t r × Reaches t row names
 unfolding refusals.orElse refusals.wordsRefusal refusals.goodFlag refusals.boxesRefusal refusals.typesRefusal tables.placeOf refusals.hasTwice refusals.namesRefusal refusals.twiceRefusal refusals.recordsRefusal tables.areBelow refusals.pairRefusal refusals.isLent refusals.columnRefusal refusals.leafRefusal refusals.nodeRefusal refusals.usesBy refusals.usesRefusal refusals.tableRefusal refusals.treeRefusal refusals.refusal tables.place
 by-name = both-halves (byName lent) refl refl refl lent-numbers
+
+-- ---- a Covers whose literal wraps: of the row's own record, which wraps, and one with NaN
+abbrev wrapped-table : Table
+wrapped-table = tables.table (1 ∷ 0 ∷ 7 ∷ 0 ∷ []) (ends (plus 175) (neg (plus 175)) (plus 5) (plus 5) (plus 0) (plus 0) []) (1 ∷ [])
+
+abbrev wrapped-fold : Records
+wrapped-fold = tables.records (ends (plus 170) (neg (plus 170)) (plus 5) (plus 8) (plus 0) (plus 0) []) (1 ∷ []) (0 ∷ []) (0 ∷ [])
+
+abbrev wrapped-row : Row
+wrapped-row n = record { bbox = Bbox.Known (flat (plus 170) (neg (plus 170)) (plus 5) (plus 5)); bit = 1 }
+
+abbrev wrapped-lists : ℕ → List GeoStatistics
+wrapped-lists n =
+    reading (Bbox.Known (flat nan (plus 3) (plus 6) (plus 8))) GeometryTypes.Missing (pos 1)
+    ∷ reading (wrapped-row n .bbox) GeometryTypes.Missing (pos 2)
+    ∷ []
+
+wrapped-folds : Folds (ofBox (flat (plus 175) (neg (plus 175)) (plus 5) (plus 5))) (wrapped-lists 0) (wrapped-row 0) (tables.recordAt wrapped-fold 0)
+unfolding fits add sub div neg lt le eq isNan round ofInt minNum maxNum abs interval.intersectsInterval interval.isEmpty interval.mergeInterval wraparound.isWraparound wraparound.split wraparound.mid wraparound.fromPieces wraparound.mergeWrapped wraparound.nearerLeft wraparound.mergePlain wraparound.mergeNonEmpty wraparound.mergeInterval boundingBox.joinKnown boundingBox.mergeBox statistics.leaves statistics.sumLeaves statistics.totalsOverflow statistics.countsOverflow statistics.mergeBboxes statistics.mergeTypes statistics.mergeParts statistics.mergeValue statistics.addTotals statistics.step statistics.foldFrom tables.boxWith tables.boxAt tables.typesAt
+wrapped-folds = record {
+  doubles = (
+    record { x = record { lo = tt; hi = tt }; y = record { lo = tt; hi = tt }; z = tt; m = tt },
+    (record { x = record { lo = tt; hi = tt }; y = record { lo = tt; hi = tt }; z = tt; m = tt }, tt),
+  );
+  has = tt;
+  among = inr (inl (refl, tt));
+  fit = refl;
+  folded = refl;
+}
+
+wrapped-wanted : Wanted byPosition wrapped-table wrapped-fold wrapped-row wrapped-lists
+unfolding sub neg lt le eq isNan round ofInt interval.containsInterval interval.isEmpty wraparound.isWraparound wraparound.split wraparound.piecesContain wraparound.containsInterval boundingBox.testKnown boundingBox.contains tables.boxWith tables.boxAt tables.orEmpty tables.leafOf tables.pairOf tables.areBelow tables.treeOf tables.treeAt refusals.orElse refusals.wordsRefusal refusals.goodFlag refusals.boxesRefusal refusals.typesRefusal refusals.namesRefusal refusals.twiceRefusal refusals.recordsRefusal refusals.pairRefusal refusals.isLent refusals.columnRefusal refusals.leafRefusal refusals.nodeRefusal refusals.usesBy refusals.usesRefusal refusals.tableRefusal refusals.treeRefusal refusals.refusal tables.place
+wrapped-wanted = record { wellFormed = refl; exist = omega arith; holds = refl; folds = wrapped-folds }
+
+pub a-wrapped-literal : MayMatch byPosition wrapped-table wrapped-fold
+a-wrapped-literal = demand-3 byPosition wrapped-table wrapped-fold wrapped-row wrapped-lists wrapped-wanted .0

@@ -10,7 +10,6 @@ use lib.Dec.{T}
 use lib.ListN.{length, getD}
 use lib.Ieee.{Float, binary64, fits, le, eq}
 use Rattle.sedona_geometry.specs.Interval as interval
-use Rattle.sedona_geometry.specs.WraparoundInterval as wraparound
 use Rattle.sedona_geometry.specs.BoundingBox as boundingBox
 use Rattle.sedona_geometry.specs.Types as types
 use Rattle.sedona_geometry.specs.declared.interval.Interval.{Interval}
@@ -82,15 +81,15 @@ Holds own (or f g) = Holds own f ⊎ Holds own g
 Holds own literalFalse = ⊥
 Holds own unknown = Unit {0}
 
--- What a leaf is, but for its column.
+-- What a leaf is, but for its column: an Intersects or a Covers of a literal, or a HasZ.
 pub data Leaf : Type 0 where
-  anIntersects aCovers : BoundingBox → Leaf
+  ofBox : BoundingBox → Leaf
   aHasZ : Leaf
 
 -- Of every leaf and its column.
 abbrev pub EachLeaf : (Leaf → Column → Type 0) → Filter → Type 0
-EachLeaf P (intersects c k) = P (anIntersects k) c
-EachLeaf P (covers c k) = P (aCovers k) c
+EachLeaf P (intersects c k) = P (ofBox k) c
+EachLeaf P (covers c k) = P (ofBox k) c
 EachLeaf P (hasZ c) = P aHasZ c
 EachLeaf P (and f g) = EachLeaf P f × EachLeaf P g
 EachLeaf P (or f g) = EachLeaf P f × EachLeaf P g
@@ -99,8 +98,7 @@ EachLeaf P unknown = Unit {0}
 
 -- Of a leaf's literal. A HasZ has none.
 abbrev pub OfLiteral : (BoundingBox → Type 0) → Leaf → Type 0
-OfLiteral P (anIntersects k) = P k
-OfLiteral P (aCovers k) = P k
+OfLiteral P (ofBox k) = P k
 OfLiteral P aHasZ = Unit {0}
 
 -- ---- lists of records
@@ -122,8 +120,7 @@ HasBit k = HasTypes (λ s. types.has s k ≡ true)
 -- What a record of the row has beside the row's box: "in a column where a HasZ leaf holds of the row, demand 3 asks this record of the list and
 -- not the box alone".
 abbrev pub Beside : Leaf → Cell → GeometryTypes → Type 0
-Beside (anIntersects k) own t = Unit {0}
-Beside (aCovers k) own t = Unit {0}
+Beside (ofBox k) own t = Unit {0}
 Beside aHasZ own t = HoldsZ own → HasBit (own .bit) t
 
 -- A record as a leaf sees it.
@@ -142,13 +139,6 @@ pub record Folds (f : Leaf) (rs : List GeoStatistics) (own : Cell) (lent : Colum
   -- "the record of each named column being its fold", its box and its types
   pub folded : lent ≡ seen (fold rs .rec)
 
--- "under a Covers no record's x wraps or has NaN and the literal's x runs low to high"
-abbrev pub UnderCovers : Leaf → List GeoStatistics → Type 0
-UnderCovers (anIntersects k) rs = Unit {0}
-UnderCovers aHasZ rs = Unit {0}
-UnderCovers (aCovers k) rs =
-    All (λ s. WhereBox (λ b. (wraparound.isWraparound (b .x) ≡ false) × (interval.hasNan (b .x .inner) ≡ false)) (s .bbox)) rs × (lowToHigh (k .x .inner) ≡ true)
-
 -- ---- the hypotheses
 
 -- Of the first half. (The column of a leaf is `place l c`.)
@@ -159,10 +149,9 @@ pub record Wanted (l : Lookup) (t : Table) (r : Records) (row : Row) (lists : �
   pub exist : EachLeaf (λ f c. place l c < length (r .boxes .flags)) (root t)
   -- "any row of which it holds"
   pub holds : Holds (λ c. row (place l c)) (root t)
-  -- "Whatever records each named column's list has .., if the row's own box is among them, totals fit at every merge step"
+  -- "Whatever records each named column's list has .., if the row's own box is among them, totals fit at every merge step": "wrapped and NaN
+  -- records included, and the literal's x may run any way"
   pub folds : EachLeaf (λ f c. Folds f (lists (place l c)) (row (place l c)) (recordAt r (place l c))) (root t)
-  -- "and under a Covers no record's x wraps or has NaN and the literal's x runs low to high"
-  pub under : EachLeaf (λ f c. UnderCovers f (lists (place l c))) (root t)
 
 -- Of x, y, and of z and m where they are known.
 pub record Each (P : Interval → Type 0) (b : BoundingBox) : Type 0 where

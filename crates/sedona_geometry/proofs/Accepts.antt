@@ -1,14 +1,52 @@
--- What a plain interval accepts: nothing where it is empty, and nothing is lost by merging. Assumes nothing.
-use mathlib.Core.Path.{_≡_}
-use mathlib.Core.Bool.{true}
+-- What a plain interval contains and accepts: nothing is lost by merging, and an empty one accepts nothing. Assumes nothing.
+use mathlib.Core.Path.{_≡_, sym, subst}
+use mathlib.Core.Bool.{true, false}
 use lib.Dec.{T}
-use lib.Ieee.{Float, binary64, le, fits}
+use lib.Ieee.{Float, inf, binary64, le, eq, fits}
 use lib.Ieee.Fits.{and-l, and-r, and-i}
-use Rattle.sedona_geometry.specs.Interval.{Doubles, Accepts, width, intersectsValue, intersectsInterval, isEmpty, mergeInterval, mergeValue}
+use Rattle.sedona_geometry.specs.Interval.{Doubles, Accepts, width, intersectsValue, intersectsInterval, containsInterval, isEmpty, mergeInterval, mergeValue}
 use Rattle.sedona_geometry.specs.declared.interval.Interval.{Interval}
-use Rattle.sedona_geometry.proofs.Order.{Number, Le, holds, is-true, le-refl, le-trans, le-number, eq-inf}
+use Rattle.sedona_geometry.proofs.Order.{Number, Le, holds, fails, is-true, le-refl, le-trans, le-number, eq-inf}
 use Rattle.sedona_geometry.proofs.MinMax.{min-le-left, min-le-right, min-fits, max-ge-left, max-ge-right, max-fits}
-use Rattle.sedona_geometry.proofs.Rounding.{sub-not-bottom}
+use Rattle.sedona_geometry.proofs.Rounding.{sub-not-bottom, sub-wider}
+
+-- ---- one inside the other
+pub record Contains (i j : Interval) : Type 0 where
+  pub holds : containsInterval i j ≡ true
+
+pub inside : {i j : Interval} → Contains i j → Le (i .lo) (j .lo) × Le (j .hi) (i .hi)
+unfolding containsInterval
+inside {i} {j} h = (
+  record { test = and-l (le (i .lo) (j .lo)) (le (j .hi) (i .hi)) (holds (h .holds)) },
+  record { test = and-r (le (i .lo) (j .lo)) (le (j .hi) (i .hi)) (holds (h .holds)) },
+)
+
+pub contains : {i j : Interval} → Le (i .lo) (j .lo) → Le (j .hi) (i .hi) → Contains i j
+unfolding containsInterval
+contains {i} {j} h k =
+    record { holds = is-true (containsInterval i j) (and-i (le (i .lo) (j .lo)) (le (j .hi) (i .hi)) (h .test) (k .test)) }
+
+-- neither has NaN
+pub contained-numbers : {i j : Interval} → Contains i j → Number (j .lo) × Number (j .hi)
+contained-numbers c = (le-number (inside c .0) .1, le-number (inside c .1) .0)
+
+pub containing-numbers : {i j : Interval} → Contains i j → Number (i .lo) × Number (i .hi)
+containing-numbers c = (le-number (inside c .0) .0, le-number (inside c .1) .1)
+
+-- around what runs low to high, it runs low to high
+pub contains-low-to-high : {i j : Interval} → Contains i j → Le (j .lo) (j .hi) → Le (i .lo) (i .hi)
+contains-low-to-high c l = le-trans (inside c .0) (le-trans l (inside c .1))
+
+pub contains-itself : {i : Interval} → Number (i .lo) → Number (i .hi) → Contains i i
+contains-itself L H = contains (le-refl L) (le-refl H)
+
+pub merge-contains-left : {i k : Interval} (j : Interval) → Contains i k → Contains (mergeInterval i j) k
+unfolding mergeInterval
+merge-contains-left j h = contains (min-le-left (j .lo) (inside h .0)) (max-ge-left (j .hi) (inside h .1))
+
+pub merge-contains-right : (i : Interval) {j k : Interval} → Contains j k → Contains (mergeInterval i j) k
+unfolding mergeInterval
+merge-contains-right i h = contains (min-le-right (i .lo) (inside h .0)) (max-ge-right (i .hi) (inside h .1))
 
 -- ---- between the ends
 pub between : {i : Interval} {v : Float} → Accepts i v → Le (i .lo) v × Le v (i .hi)
@@ -32,6 +70,20 @@ empty-not-low-to-high {i} D e h = sub-not-bottom binary64 (D .hi) (D .lo) h (eq-
 
 pub empty-accepts-nothing : {i : Interval} {v : Float} → Doubles i → isEmpty i ≡ true → Accepts i v → ⊥
 empty-accepts-nothing D e h = empty-not-low-to-high D e (accepts-low-to-high h)
+
+-- ---- k lies inside no empty interval
+pub record Solid (k : Interval) : Type 0 where
+  pub outside : {i : Interval} → Doubles i → isEmpty i ≡ true → Contains i k → ⊥
+
+pub low-to-high-solid : {k : Interval} → Le (k .lo) (k .hi) → Solid k
+low-to-high-solid l = record { outside = λ D e c. empty-not-low-to-high D e (contains-low-to-high c l) }
+
+pub non-empty-solid : {k : Interval} → isEmpty k ≡ false → Solid k
+unfolding isEmpty eq
+non-empty-solid n = record {
+  outside = λ {i} D e c.
+      sub-wider binary64 (inside c .0) (inside c .1) (λ z. fails n (subst (λ (w : Float). T (eq w (inf true))) (sym z) tt)) (eq-inf (width i) true (holds e));
+}
 
 -- ---- merging loses nothing
 pub merge-accepts-left : {i : Interval} {v : Float} (j : Interval) → Accepts i v → Accepts (mergeInterval i j) v

@@ -2,7 +2,7 @@
 -- Each is said once for a dimension. Assumes nothing.
 use mathlib.Core.Path.{_≡_, refl}
 use mathlib.Core.Logic.{_⊎_, inl, inr, ⊎-elim}
-use mathlib.Core.Bool.{Bool, true, _&&_}
+use mathlib.Core.Bool.{Bool, true, false, _&&_}
 use lib.Ieee.Fits.{and-l, and-r}
 use Rattle.sedona_geometry.specs.Interval as interval
 use Rattle.sedona_geometry.specs.WraparoundInterval as wraparound
@@ -12,9 +12,10 @@ use Rattle.sedona_geometry.specs.declared.bounding_box.Dimension.the-var
 use Rattle.sedona_geometry.specs.declared.bounding_box.BoundingBox.{BoundingBox}
 use Rattle.sedona_geometry.proofs.Order.{Le, holds, is-true}
 use Rattle.sedona_geometry.proofs.Accepts as plain
+use Rattle.sedona_geometry.proofs.Accepts.{Contains}
 use Rattle.sedona_geometry.proofs.Wrapping as wrapping
 use Rattle.sedona_geometry.proofs.Contains as containing
-use Rattle.sedona_geometry.proofs.Contains.{Straight, Contains}
+use Rattle.sedona_geometry.proofs.Contains.{Straight}
 
 -- ---- merging loses nothing
 merge-dimensions-left : (d e : Dimension) → AcceptsAllOfKnown (mergeDimensions d e) d
@@ -131,21 +132,27 @@ whole {a} {k} p =
     four (wraparound.containsInterval (a .x) (k .x)) (interval.containsInterval (a .y) (k .y)) (dimensionsContain (a .z) (k .z)) (dimensionsContain (a .m) (k .m))
     (p .x) (p .y .holds) (p .z) (p .m)
 
--- ---- merging keeps what either contains, where x runs straight
+-- ---- where no x wraps and the other's is not empty, a box contains what it contains in the Rust
+pub contains-as-the-rust : (a b : BoundingBox) → wraparound.isWraparound (a .x) ≡ false → wraparound.isWraparound (b .x) ≡ false → wraparound.isEmpty (b .x) ≡ false
+    → contains a b
+    ≡ (wraparound.containsOneByOne (a .x) (b .x) && interval.containsInterval (a .y) (b .y) && dimensionsContain (a .z) (b .z) && dimensionsContain (a .m) (b .m))
+unfolding contains
+contains-as-the-rust a b w u n = rw (containing.contains-as-the-rust (a .x) (b .x) w u n)
+
+-- ---- merging keeps what either contains
 merge-dimensions-contain : (d e k : Dimension) → (dimensionsContain d k ≡ true) ⊎ (dimensionsContain e k ≡ true) → dimensionsContain (mergeDimensions d e) k ≡ true
 unfolding testKnown joinKnown
 merge-dimensions-contain Missing e k h = refl
 merge-dimensions-contain (Known i) Missing k h = refl
 merge-dimensions-contain (Known i) (Known j) Missing h = refl
 merge-dimensions-contain (Known i) (Known j) (Known l) h =
-    ⊎-elim (λ a. containing.merge-contains-left j (record { holds = a }) .holds) (λ b. containing.merge-contains-right i (record { holds = b }) .holds) h
+    ⊎-elim (λ a. plain.merge-contains-left j (record { holds = a }) .holds) (λ b. plain.merge-contains-right i (record { holds = b }) .holds) h
 
-pub merge-contains : {a b k : BoundingBox} → Doubles a → Doubles b → Straight (a .x) → Straight (b .x) → Le (k .x .inner .lo) (k .x .inner .hi)
-    → Parts a k ⊎ Parts b k → Parts (mergeBox a b) k
+pub merge-contains : {a b k : BoundingBox} → Doubles a → Doubles b → Parts a k ⊎ Parts b k → Parts (mergeBox a b) k
 unfolding mergeBox
-merge-contains {a} {b} {k} D E s t l h = record {
-  x = containing.merge-contains (D .x) (E .x) s t l (⊎-elim (λ p. inl (p .x)) (λ p. inr (p .x)) h);
-  y = ⊎-elim (λ p. containing.merge-contains-left (b .y) (p .y)) (λ p. containing.merge-contains-right (a .y) (p .y)) h;
+merge-contains {a} {b} {k} D E h = record {
+  x = containing.merge-contains (D .x) (E .x) (k .x) (⊎-elim (λ p. inl (p .x)) (λ p. inr (p .x)) h);
+  y = ⊎-elim (λ p. plain.merge-contains-left (b .y) (p .y)) (λ p. plain.merge-contains-right (a .y) (p .y)) h;
   z = merge-dimensions-contain (a .z) (b .z) (k .z) (⊎-elim (λ p. inl (p .z)) (λ p. inr (p .z)) h);
   m = merge-dimensions-contain (a .m) (b .m) (k .m) (⊎-elim (λ p. inl (p .m)) (λ p. inr (p .m)) h);
 }
@@ -177,9 +184,9 @@ pub intersection-accepted : {a b : BoundingBox} → Doubles a → Doubles b → 
 unfolding intersection withX
 intersection-accepted {a} {b} D E s t = rw (containing.intersection-plain (a .x) (b .x) (containing.straight-plain (D .x) s) (containing.straight-plain (E .x) t))
 
-pub intersection-contains : {a b k : BoundingBox} → Doubles a → Doubles b → Straight (a .x) → Straight (b .x) → LowToHigh k → Parts a k → Parts b k → Parts (met a b) k
-intersection-contains {a} {b} {k} D E s t l p q = record {
-  x = containing.x-intersection-contains (D .x) (E .x) s t (l .x) (p .x) (q .x);
+pub intersection-contains : {a b k : BoundingBox} → Doubles a → Doubles b → Doubles k → Straight (a .x) → Straight (b .x) → LowToHigh k → Parts a k → Parts b k → Parts (met a b) k
+intersection-contains {a} {b} {k} D E F s t l p q = record {
+  x = containing.x-intersection-contains (D .x) (E .x) (F .x) s t (l .x) (p .x) (q .x);
   y = containing.intersection-contains (l .y) (p .y) (q .y);
   z = intersect-dimensions-contain (a .z) (b .z) (k .z) (l .z) (p .z) (q .z);
   m = intersect-dimensions-contain (a .m) (b .m) (k .m) (l .m) (p .m) (q .m);

@@ -1,47 +1,129 @@
--- What an interval contains: merging keeps it where no x wraps, and an intersection keeps what both contain and accepts what both accept.
+-- What an x contains: merging keeps it, and an intersection of two that run low to high keeps what both contain and accepts what both accept.
 -- Assumes nothing.
-use mathlib.Core.Path.{_≡_, refl}
-use mathlib.Core.Logic.{_⊎_, ⊎-elim, _↔_}
-use mathlib.Core.Bool.{Bool, true, false, not, _&&_, cond}
-use lib.Dec.{not-T}
-use lib.Ieee.{Float, binary64, sub, lt, le, eq, isNan}
+use mathlib.Core.Path.{_≡_, refl, sym, subst, _∙_}
+use mathlib.Core.Logic.{_⊎_, inl, inr, ⊎-elim, _↔_}
+use mathlib.Core.Bool.{Bool, true, false, _||_, cond, and-true}
+use lib.Dec.{T}
+use lib.Ieee.{Float, binary64, sub, lt, le, eq}
 use lib.Ieee.Fits.{and-l, and-r, and-i}
 use Rattle.sedona_geometry.specs.Float as float
 use Rattle.sedona_geometry.specs.Interval as interval
-use Rattle.sedona_geometry.specs.Interval.{Doubles, hasNan}
-use Rattle.sedona_geometry.specs.WraparoundInterval.{Accepts, fromInterval, isEmpty, isWraparound, split, containsInterval, mergeInterval, mergeNonEmpty, intersection}
+use Rattle.sedona_geometry.specs.Interval.{Doubles}
+use Rattle.sedona_geometry.specs.WraparoundInterval.{Accepts, fromInterval, isEmpty, isWraparound, split, piecesContain, containsInterval, containsOneByOne, mergeInterval, mergeNonEmpty, intersection}
 use Rattle.sedona_geometry.specs.declared.interval.Interval.{Interval}
 use Rattle.sedona_geometry.specs.declared.interval.WraparoundInterval.{WraparoundInterval}
+use Rattle.sedona_geometry.specs.declared.interval.Pieces.{Pieces}
 use Rattle.sedona_geometry.specs.declared.interval.Intersection.{Intersection}
-use Rattle.sedona_geometry.proofs.Order.{Number, infinite, Le, holds, fails, is-true, is-false, or-left, or-right, le-of-eq, le-of-not-lt, le-refl, le-trans, le-number, number-of-test, top-not-bottom, below-bottom, lt-not-le}
+use Rattle.sedona_geometry.proofs.Order.{Number, Le, holds, fails, is-true, is-false, or-left, or-right, or-cases, le-of-eq, le-of-not-lt, le-refl, le-trans, le-number, lt-not-le}
 use Rattle.sedona_geometry.proofs.MinMax.{min-le-left, min-le-right, min-greatest, min-fits, max-ge-left, max-ge-right, max-least, max-fits}
-use Rattle.sedona_geometry.proofs.Rounding.{sub-neg, sub-number}
+use Rattle.sedona_geometry.proofs.Rounding.{sub-number}
 use Rattle.sedona_geometry.proofs.Accepts as plain
-use Rattle.sedona_geometry.proofs.Wrapping.{split-plain, split-wrapped, low-to-high-plain, empty-not-wrapped, plain-of-accepts, accepts-of-plain, none-accepted, infinite-doubles}
+use Rattle.sedona_geometry.proofs.Accepts.{Contains, inside, contains, Solid, non-empty-solid}
+use Rattle.sedona_geometry.proofs.Wrapping.{Within, split-plain, low-to-high-plain, empty-not-wrapped, empty-is-empty, plain-within, within-plain, merge-within, plain-of-accepts, accepts-of-plain, none-accepted, infinite-doubles}
 
--- ---- plain intervals
-pub record Contains (i j : Interval) : Type 0 where
-  pub holds : interval.containsInterval i j ≡ true
+low-to-high-not-empty : {x : WraparoundInterval} → Doubles (x .inner) → Le (x .inner .lo) (x .inner .hi) → isEmpty x ≡ false
+low-to-high-not-empty {x} D h = is-false (isEmpty x) (λ e. plain.empty-not-low-to-high D (is-true (isEmpty x) e) h)
 
-pub inside : {i j : Interval} → Contains i j → Le (i .lo) (j .lo) × Le (j .hi) (i .hi)
-unfolding interval.containsInterval
-inside {i} {j} h = (
-  record { test = and-l (le (i .lo) (j .lo)) (le (j .hi) (i .hi)) (holds (h .holds)) },
-  record { test = and-r (le (i .lo) (j .lo)) (le (j .hi) (i .hi)) (holds (h .holds)) },
-)
+-- ---- an x contains another: each piece of the other is empty or lies inside some piece
+abbrev PieceIn : WraparoundInterval → Interval → Type 0
+PieceIn x i = (interval.isEmpty i ≡ true) ⊎ Within x i
 
-pub contains : {i j : Interval} → Le (i .lo) (j .lo) → Le (j .hi) (i .hi) → Contains i j
-unfolding interval.containsInterval
-contains {i} {j} h k =
-    record { holds = is-true (interval.containsInterval i j) (and-i (le (i .lo) (j .lo)) (le (j .hi) (i .hi)) (h .test) (k .test)) }
+piece-in : (x : WraparoundInterval) (i : Interval) → T (piecesContain (split x) i) → PieceIn x i
+unfolding piecesContain
+piece-in x i h =
+    let e = interval.isEmpty i in
+    let l = interval.containsInterval (split x .left) i in
+    let r = interval.containsInterval (split x .right) i in
+    ⊎-elim
+    (λ el. ⊎-elim (λ a. inl (is-true e a)) (λ b. inr (record { piece = inl (record { holds = is-true l b }) })) (or-cases e l el))
+    (λ c. inr (record { piece = inr (record { holds = is-true r c }) }))
+    (or-cases (e || l) r h)
 
-pub merge-contains-left : {i k : Interval} (j : Interval) → Contains i k → Contains (interval.mergeInterval i j) k
-unfolding interval.mergeInterval
-merge-contains-left j h = contains (min-le-left (j .lo) (inside h .0)) (max-ge-left (j .hi) (inside h .1))
+in-piece : (x : WraparoundInterval) (i : Interval) → PieceIn x i → T (piecesContain (split x) i)
+unfolding piecesContain
+in-piece x i h =
+    let e = interval.isEmpty i in
+    let l = interval.containsInterval (split x .left) i in
+    let r = interval.containsInterval (split x .right) i in
+    ⊎-elim
+    (λ a. or-left (e || l) r (or-left e l (holds a)))
+    (λ w. ⊎-elim (λ b. or-left (e || l) r (or-right e l (holds (b .holds)))) (λ c. or-right (e || l) r (holds (c .holds))) (w .piece))
+    h
 
-pub merge-contains-right : (i : Interval) {j k : Interval} → Contains j k → Contains (interval.mergeInterval i j) k
-unfolding interval.mergeInterval
-merge-contains-right i h = contains (min-le-right (i .lo) (inside h .0)) (max-ge-right (i .hi) (inside h .1))
+pieces-in : (x k : WraparoundInterval) → containsInterval x k ≡ true → PieceIn x (split k .left) × PieceIn x (split k .right)
+unfolding containsInterval
+pieces-in x k h =
+    let l = piecesContain (split x) (split k .left) in
+    let r = piecesContain (split x) (split k .right) in
+    (piece-in x (split k .left) (and-l l r (holds h)), piece-in x (split k .right) (and-r l r (holds h)))
+
+in-pieces : (x k : WraparoundInterval) → PieceIn x (split k .left) → PieceIn x (split k .right) → containsInterval x k ≡ true
+unfolding containsInterval
+in-pieces x k h g =
+    is-true (containsInterval x k)
+    (and-i (piecesContain (split x) (split k .left)) (piecesContain (split x) (split k .right)) (in-piece x (split k .left) h) (in-piece x (split k .right) g))
+
+-- What is contained as in the Rust is contained.
+pub one-by-one-contains : (x k : WraparoundInterval) → containsOneByOne x k ≡ true → containsInterval x k ≡ true
+unfolding containsOneByOne
+one-by-one-contains x k h =
+    let l = interval.containsInterval (split x .left) (split k .left) in
+    let r = interval.containsInterval (split x .right) (split k .right) in
+    in-pieces x k
+    (inr (record { piece = inl (record { holds = is-true l (and-l l r (holds h)) }) }))
+    (inr (record { piece = inr (record { holds = is-true r (and-r l r (holds h)) }) }))
+
+-- ---- merging keeps what either contains, wrapped, empty or with NaN
+module _ {x y : WraparoundInterval} (D : Doubles (x .inner)) (E : Doubles (y .inner)) where
+  merge-piece-in : {i : Interval} → PieceIn x i ⊎ PieceIn y i → PieceIn (mergeInterval x y) i
+  merge-piece-in {i} h = go (interval.isEmpty i) refl
+    where
+      within : {z : WraparoundInterval} → interval.isEmpty i ≡ false → PieceIn z i → Within z i
+      within n p = ⊎-elim (λ e. absurd (fails n (holds e))) (λ w. w) p
+
+      go : (b : Bool) → interval.isEmpty i ≡ b → PieceIn (mergeInterval x y) i
+      go true e = inl e
+      go false n = inr (merge-within D E (non-empty-solid n) (⊎-elim (λ p. inl (within n p)) (λ p. inr (within n p)) h))
+
+  pub merge-contains : (k : WraparoundInterval) → (containsInterval x k ≡ true) ⊎ (containsInterval y k ≡ true) → containsInterval (mergeInterval x y) k ≡ true
+  merge-contains k h =
+      in-pieces (mergeInterval x y) k
+      (merge-piece-in (⊎-elim (λ a. inl (pieces-in x k a .0)) (λ b. inr (pieces-in y k b .0)) h))
+      (merge-piece-in (⊎-elim (λ a. inl (pieces-in x k a .1)) (λ b. inr (pieces-in y k b .1)) h))
+
+-- ---- where neither wraps and the other is not empty, it is `contains_interval` of the two intervals, end by end
+pub contains-plain : (x k : WraparoundInterval) → isWraparound x ≡ false → isWraparound k ≡ false → isEmpty k ≡ false
+    → containsInterval x k ≡ interval.containsInterval (x .inner) (k .inner)
+contains-plain x k w u n = go (interval.containsInterval (x .inner) (k .inner)) refl
+  where
+    S : Solid (k .inner)
+    S = non-empty-solid n
+
+    left : containsInterval x k ≡ true → PieceIn x (k .inner)
+    left h = subst (λ (p : Pieces). PieceIn x (p .left)) (split-plain k u) (pieces-in x k h .0)
+
+    go : (b : Bool) → interval.containsInterval (x .inner) (k .inner) ≡ b → containsInterval x k ≡ b
+    go true e =
+        in-pieces x k
+        (subst (λ (p : Pieces). PieceIn x (p .left)) (sym (split-plain k u)) (inr (plain-within w (record { holds = e }))))
+        (subst (λ (p : Pieces). PieceIn x (p .right)) (sym (split-plain k u)) (inl empty-is-empty))
+    go false e =
+        is-false (containsInterval x k) (λ h.
+        ⊎-elim (λ a. fails n (holds a)) (λ i. fails e (holds (within-plain S w i .holds))) (left (is-true (containsInterval x k) h)))
+
+one-by-one-plain : (x k : WraparoundInterval) → isWraparound x ≡ false → isWraparound k ≡ false
+    → containsOneByOne x k ≡ interval.containsInterval (x .inner) (k .inner)
+unfolding containsOneByOne interval.containsInterval le
+one-by-one-plain x k w u = rw (split-plain x w, split-plain k u) (and-true (interval.containsInterval (x .inner) (k .inner)))
+
+-- so there it is the Rust's
+pub contains-as-the-rust : (x k : WraparoundInterval) → isWraparound x ≡ false → isWraparound k ≡ false → isEmpty k ≡ false → containsInterval x k ≡ containsOneByOne x k
+contains-as-the-rust x k w u n = contains-plain x k w u n ∙ sym (one-by-one-plain x k w u)
+
+-- and of what runs low to high
+pub contains-low-to-high : (x k : WraparoundInterval) → Doubles (k .inner) → isWraparound x ≡ false → Le (k .inner .lo) (k .inner .hi)
+    → containsInterval x k ≡ interval.containsInterval (x .inner) (k .inner)
+contains-low-to-high x k F w l = contains-plain x k w (low-to-high-plain F l) (low-to-high-not-empty F l)
 
 -- ---- an x that runs low to high, or is empty
 pub data Straight (x : WraparoundInterval) : Type 0 where
@@ -52,27 +134,7 @@ pub straight-plain : {x : WraparoundInterval} → Doubles (x .inner) → Straigh
 straight-plain {x} D (empty e) = empty-not-wrapped x e
 straight-plain D (ordered h) = low-to-high-plain D h
 
--- it is one that does not wrap and has no NaN
-pub straight : {x : WraparoundInterval} → Doubles (x .inner) → isWraparound x ≡ false → hasNan (x .inner) ≡ false → Straight x
-unfolding isWraparound
-straight {x} D w n = go (isEmpty x) refl
-  where
-    lo-number : Number (x .inner .lo)
-    lo-number = number-of-test (x .inner .lo) (is-false (isNan (x .inner .lo)) (λ h. fails n (or-left (isNan (x .inner .lo)) (isNan (x .inner .hi)) h)))
-
-    hi-number : Number (x .inner .hi)
-    hi-number = number-of-test (x .inner .hi) (is-false (isNan (x .inner .hi)) (λ h. fails n (or-right (isNan (x .inner .lo)) (isNan (x .inner .hi)) h)))
-
-    go : (b : Bool) → isEmpty x ≡ b → Straight x
-    go true e = empty e
-    go false e =
-        ordered (le-of-not-lt hi-number lo-number (λ h.
-        fails w (and-i (not (isEmpty x)) (lt (interval.width (x .inner)) float.zero) (not-T (isEmpty x) (fails e)) (sub-neg binary64 (D .hi) (D .lo) h .test))))
-
 -- ---- merging x that run straight
-ordered-not-empty : {x : WraparoundInterval} → Doubles (x .inner) → Le (x .inner .lo) (x .inner .hi) → isEmpty x ≡ false
-ordered-not-empty {x} D h = is-false (isEmpty x) (λ e. plain.empty-not-low-to-high D (is-true (isEmpty x) e) h)
-
 merge-empty : (x y : WraparoundInterval) → isEmpty x ≡ true → mergeInterval x y ≡ y
 unfolding mergeInterval
 merge-empty x y e = rw e
@@ -84,60 +146,15 @@ merge-with-empty x y e f = rw (e, f)
 merge-ordered : {x y : WraparoundInterval} → Doubles (x .inner) → Doubles (y .inner) → Le (x .inner .lo) (x .inner .hi) → Le (y .inner .lo) (y .inner .hi)
     → mergeInterval x y ≡ fromInterval (interval.mergeInterval (x .inner) (y .inner))
 unfolding mergeInterval mergeNonEmpty
-merge-ordered D E h k = rw (ordered-not-empty D h, ordered-not-empty E k, low-to-high-plain D h, low-to-high-plain E k)
+merge-ordered D E h k = rw (low-to-high-not-empty D h, low-to-high-not-empty E k, low-to-high-plain D h, low-to-high-plain E k)
 
 merge-low-to-high : {i : Interval} (j : Interval) → Le (i .lo) (i .hi) → Le (interval.mergeInterval i j .lo) (interval.mergeInterval i j .hi)
-unfolding interval.mergeInterval
-merge-low-to-high j h = le-trans (min-le-left (j .lo) h) (max-ge-left (j .hi) (le-refl (le-number h .1)))
+merge-low-to-high j h = plain.contains-low-to-high (plain.merge-contains-left j (plain.contains-itself (le-number h .0) (le-number h .1))) h
 
 pub merge-straight : {x y : WraparoundInterval} → Doubles (x .inner) → Doubles (y .inner) → Straight x → Straight y → Straight (mergeInterval x y)
 merge-straight {x} {y} D E (empty e) s = rw (merge-empty x y e) s
-merge-straight {x} {y} D E (ordered h) (empty f) = rw (merge-with-empty x y (ordered-not-empty D h) f) (ordered h)
+merge-straight {x} {y} D E (ordered h) (empty f) = rw (merge-with-empty x y (low-to-high-not-empty D h) f) (ordered h)
 merge-straight {x} {y} D E (ordered h) (ordered k) = rw (merge-ordered D E h k) (ordered (merge-low-to-high (y .inner) h))
-
--- ---- what an x that runs straight contains
-pub contains-plain : (x k : WraparoundInterval) → isWraparound x ≡ false → containsInterval x k ≡ true → (isWraparound k ≡ false) × Contains (x .inner) (k .inner)
-unfolding containsInterval
-contains-plain x k w h = go (isWraparound k) refl
-  where
-    first : Contains (split x .left) (split k .left)
-    first = record { holds = is-true (interval.containsInterval (split x .left) (split k .left)) (and-l (interval.containsInterval (split x .left) (split k .left)) (interval.containsInterval (split x .right) (split k .right)) (holds h)) }
-
-    second : Contains (split x .right) (split k .right)
-    second = record { holds = is-true (interval.containsInterval (split x .right) (split k .right)) (and-r (interval.containsInterval (split x .left) (split k .left)) (interval.containsInterval (split x .right) (split k .right)) (holds h)) }
-
-    go : (b : Bool) → isWraparound k ≡ b → (isWraparound k ≡ false) × Contains (x .inner) (k .inner)
-    go true u = absurd (top-not-bottom (below-bottom (inside (rw (split-plain x w, split-wrapped k u) at second) .1)))
-    go false u = (u, rw (split-plain x w, split-plain k u) at first)
-
-pub plain-contains : (x k : WraparoundInterval) → isWraparound x ≡ false → isWraparound k ≡ false → Contains (x .inner) (k .inner) → containsInterval x k ≡ true
-unfolding containsInterval
-plain-contains x k w u h =
-    rw (split-plain x w, split-plain k u)
-    (is-true (interval.containsInterval (x .inner) (k .inner) && interval.containsInterval interval.empty interval.empty)
-    (and-i (interval.containsInterval (x .inner) (k .inner)) (interval.containsInterval interval.empty interval.empty) (holds (h .holds))
-    (holds (contains {i = interval.empty} {j = interval.empty} (le-refl infinite) (le-refl infinite) .holds))))
-
-empty-contains-none : {x k : WraparoundInterval} → Doubles (x .inner) → isEmpty x ≡ true → Le (k .inner .lo) (k .inner .hi) → containsInterval x k ≡ true → ⊥
-empty-contains-none {x} {k} D e l h =
-    let c = inside (contains-plain x k (empty-not-wrapped x e) h .1) in
-    plain.empty-not-low-to-high D e (le-trans (c .0) (le-trans l (c .1)))
-
--- Merging keeps every low-to-high interval. (An empty one it may lose: (MAX, −MAX) contains itself, and merged with (inf, inf) it yields (inf, inf).)
-pub merge-contains : {x y k : WraparoundInterval} → Doubles (x .inner) → Doubles (y .inner) → Straight x → Straight y → Le (k .inner .lo) (k .inner .hi)
-    → (containsInterval x k ≡ true) ⊎ (containsInterval y k ≡ true) → containsInterval (mergeInterval x y) k ≡ true
-merge-contains {x} {y} {k} D E (empty e) s l h = rw (merge-empty x y e) (⊎-elim (λ a. absurd (empty-contains-none D e l a)) (λ b. b) h)
-merge-contains {x} {y} {k} D E (ordered o) (empty f) l h =
-    rw (merge-with-empty x y (ordered-not-empty D o) f) (⊎-elim (λ a. a) (λ b. absurd (empty-contains-none E f l b)) h)
-merge-contains {x} {y} {k} D E (ordered o) (ordered p) l h =
-    rw (merge-ordered D E o p)
-    (⊎-elim
-    (λ a. let c = contains-plain x k (low-to-high-plain D o) a in plain-contains (fromInterval (interval.mergeInterval (x .inner) (y .inner))) k m (c .0) (merge-contains-left (y .inner) (c .1)))
-    (λ b. let c = contains-plain y k (low-to-high-plain E p) b in plain-contains (fromInterval (interval.mergeInterval (x .inner) (y .inner))) k m (c .0) (merge-contains-right (x .inner) (c .1)))
-    h)
-  where
-    m : isWraparound (fromInterval (interval.mergeInterval (x .inner) (y .inner))) ≡ false
-    m = low-to-high-plain (plain.merge-doubles D E) (merge-low-to-high (y .inner) o)
 
 -- ---- intersections
 ordered-is : {lo hi : Float} → Le lo hi → interval.ordered lo hi ≡ interval.new lo hi
@@ -225,11 +242,11 @@ straight-numbers {x} (empty e) =
 straight-numbers (ordered h) = le-number h
 
 -- what both contain, their intersection contains: for x that run straight
-pub x-intersection-contains : {x y k : WraparoundInterval} → Doubles (x .inner) → Doubles (y .inner) → Straight x → Straight y → Le (k .inner .lo) (k .inner .hi)
+pub x-intersection-contains : {x y k : WraparoundInterval} → Doubles (x .inner) → Doubles (y .inner) → Doubles (k .inner) → Straight x → Straight y → Le (k .inner .lo) (k .inner .hi)
     → containsInterval x k ≡ true → containsInterval y k ≡ true → containsInterval (fromInterval (interval.intersection (x .inner) (y .inner))) k ≡ true
-x-intersection-contains {x} {y} {k} D E s t l p q =
-    let a = contains-plain x k (straight-plain D s) p in
-    let b = contains-plain y k (straight-plain E t) q in
+x-intersection-contains {x} {y} {k} D E F s t l p q =
+    let a = contains-low-to-high x k F (straight-plain D s) l in
+    let b = contains-low-to-high y k F (straight-plain E t) l in
     let n = straight-numbers s in
-    plain-contains (fromInterval (interval.intersection (x .inner) (y .inner))) k (straight-plain (intersection-doubles D E) (intersection-straight (y .inner) (n .0) (n .1))) (a .0)
-    (intersection-contains l (a .1) (b .1))
+    contains-low-to-high (fromInterval (interval.intersection (x .inner) (y .inner))) k F (straight-plain (intersection-doubles D E) (intersection-straight (y .inner) (n .0) (n .1))) l
+    ∙ intersection-contains l (record { holds = sym a ∙ p }) (record { holds = sym b ∙ q }) .holds

@@ -1,4 +1,4 @@
--- The rounded difference of two values that fit a format: its sign, and that it grows with the first and shrinks with the second.
+-- The rounded difference of two values: it grows with the first and shrinks with the second; and its sign, where they fit the format.
 -- Assumes nothing.
 use mathlib.Core.Path.{_≡_, refl, sym, ap, ap₂, _∙_, subst}
 use mathlib.Core.Logic.{inl, inr}
@@ -214,6 +214,70 @@ module _ (f : Format) (c : ℕ) (C : 0 < c) where
       go true b = absurd (not-le-of-lt h (b tt))
       go false b = round-gt f c C (gap p n) (a-unit p n l (omega arith))
 
+-- ---- the difference of any finite values
+positive : (e d : ℤ) → 0 < down e * down d
+positive e d = mul-pos (down-pos e) (down-pos d)
+
+-- a sum of x / d and y / g, and of the two exchanged, over u and v times their denominators
+spread : (x y d g u v : ℕ) → ((x * g + y * d) * (d * u * (g * v)) ≡ (x * u * (g * v) + y * v * (d * u)) * (d * g))
+    × ((y * d + x * g) * (d * u * (g * v)) ≡ (y * v * (d * u) + x * u * (g * v)) * (d * g))
+spread x y d g u v = omega arith
+
+-- lo' ≤ lo and hi ≤ hi', over the denominators d and g
+wider : (hp hn hp' hn' lp ln lp' ln' d g : ℕ) → lp' + ln ≤ lp + ln' → hp + hn' ≤ hp' + hn
+    → (hp * g + ln * d) + (lp' * d + hn' * g) ≤ (hp' * g + ln' * d) + (lp * d + hn * g)
+wider hp hn hp' hn' lp ln lp' ln' d g a b = omega (arith, mul-le-mul-right d a, mul-le-mul-right g b)
+
+module _ (f : Format) (s : Bool) (m : ℕ) (e : ℤ) (t : Bool) (n : ℕ) (d : ℤ) where
+  opened : sub f (fin s m e) (fin t n d) ≡ sum f s (m * up e * down d) (not t) (n * up d * down e) (down e * down d)
+  unfolding sub
+  opened = refl
+
+  plus-part : over s (m * up e * down d) + over (not t) (n * up d * down e) ≡ cross s m e t n d
+  plus-part = ap₂ (λ (x y : ℕ). x + y) (over-mul s (m * up e) (down d)) (over-not t (n * up d * down e) ∙ under-mul t (n * up d) (down e))
+
+  minus-part : under s (m * up e * down d) + under (not t) (n * up d * down e) ≡ cross t n d s m e
+  minus-part =
+      ap₂ (λ (x y : ℕ). x + y) (under-mul s (m * up e) (down d)) (under-not t (n * up d * down e) ∙ over-mul t (n * up d) (down e))
+      ∙ add-comm (under s (m * up e) * down d) (over t (n * up d) * down e)
+
+  -- it is rounded once
+  sub-rounded : Rounded f (cross s m e t n d) (cross t n d s m e) (down e * down d) (sub f (fin s m e) (fin t n d))
+  sub-rounded = rw (opened, ← plus-part, ← minus-part) (sum-is f s (m * up e * down d) (not t) (n * up d * down e) (down e * down d))
+
+  sub-fin-number : Number (sub f (fin s m e) (fin t n d))
+  sub-fin-number =
+      let R = sub-rounded in
+      rw (R .is) (round-number f (down e * down d) (positive e d) (R .sign) (gap (cross s m e t n d) (cross t n d s m e)))
+
+  -- the same, the first over u times its denominator and the second over v times its
+  sub-over : (u v : ℕ) → 0 < u → 0 < v
+      → Rounded f (over s (m * up e) * u * (down d * v) + under t (n * up d) * v * (down e * u)) (over t (n * up d) * v * (down e * u) + under s (m * up e) * u * (down d * v))
+      (down e * u * (down d * v)) (sub f (fin s m e) (fin t n d))
+  sub-over u v P Q =
+      rescaled f (cross s m e t n d) (cross t n d s m e) (down e * down d)
+      (over s (m * up e) * u * (down d * v) + under t (n * up d) * v * (down e * u)) (over t (n * up d) * v * (down e * u) + under s (m * up e) * u * (down d * v))
+      (down e * u * (down d * v)) (sub f (fin s m e) (fin t n d)) (positive e d) (mul-pos (mul-pos (down-pos e) P) (mul-pos (down-pos d) Q))
+      (spread (over s (m * up e)) (under t (n * up d)) (down e) (down d) u v .0) (spread (under s (m * up e)) (over t (n * up d)) (down e) (down d) u v .1) sub-rounded
+
+sub-fin-mono : (f : Format) (s : Bool) (m : ℕ) (e : ℤ) (t : Bool) (n : ℕ) (d : ℤ) (s' : Bool) (m' : ℕ) (e' : ℤ) (t' : Bool) (n' : ℕ) (d' : ℤ)
+    → Le (fin t' n' d') (fin t n d) → Le (fin s m e) (fin s' m' e') → Le (sub f (fin s m e) (fin t n d)) (sub f (fin s' m' e') (fin t' n' d'))
+sub-fin-mono f s m e t n d s' m' e' t' n' d' h k =
+    let D = down e * down e' in
+    let E = down d * down d' in
+    let hp = over s (m * up e) * down e' in
+    let hn = under s (m * up e) * down e' in
+    let lp = over t (n * up d) * down d' in
+    let ln = under t (n * up d) * down d' in
+    let hp' = over s' (m' * up e') * down e in
+    let hn' = under s' (m' * up e') * down e in
+    let lp' = over t' (n' * up d') * down d in
+    let ln' = under t' (n' * up d') * down d in
+    rounded-mono f (D * E) (mul-pos (positive e e') (positive d d')) (hp * E + ln * D) (lp * D + hn * E) (hp' * E + ln' * D) (lp' * D + hn' * E)
+    (wider hp hn hp' hn' lp ln lp' ln' D E (le-fin→ t' n' d' t n d h) (le-fin→ s m e s' m' e' k))
+    (sub-over f s m e t n d (down e') (down d') (down-pos e') (down-pos d'))
+    (rw (mul-comm (down e) (down e'), mul-comm (down d) (down d')) (sub-over f s' m' e' t' n' d' (down e) (down d) (down-pos e) (down-pos d)))
+
 -- ---- a finite value that fits is (p - n) / 2 ^ low: a whole number of the format's smallest values
 record Units (f : Format) (s : Bool) (m : ℕ) (e : ℤ) : Type 0 where
   p : ℕ
@@ -267,49 +331,28 @@ module _ (f : Format) (s : Bool) (m : ℕ) (e : ℤ) (t : Bool) (n : ℕ) (d : �
       join (over t (n * up d)) (down d) (under s (m * up e)) (down e) (2 ^ low f) (Y .p) (X .n) (Y .plus) (X .minus)
       ∙ ap (λ (z : ℕ). (Y .p + X .n) * z) (mul-comm (down d) (down e))
 
-  positive : 0 < down e * down d
-  positive = mul-pos (down-pos e) (down-pos d)
-
   le-units→ : Le (fin s m e) (fin t n d) → X .p + Y .n ≤ Y .p + X .n
   le-units→ h =
-      carry (cross s m e t n d) (cross t n d s m e) (down e * down d) (X .p + Y .n) (Y .p + X .n) (2 ^ low f) positive cross-units cross-units' (le-fin→ s m e t n d h)
+      carry (cross s m e t n d) (cross t n d s m e) (down e * down d) (X .p + Y .n) (Y .p + X .n) (2 ^ low f) (positive e d) cross-units cross-units' (le-fin→ s m e t n d h)
 
   →le-units : X .p + Y .n ≤ Y .p + X .n → Le (fin s m e) (fin t n d)
   →le-units h =
       →le-fin s m e t n d
       (carry (X .p + Y .n) (Y .p + X .n) (2 ^ low f) (cross s m e t n d) (cross t n d s m e) (down e * down d) (pow-pos (low f)) (sym cross-units) (sym cross-units') h)
 
-  opened : sub f (fin s m e) (fin t n d) ≡ sum f s (m * up e * down d) (not t) (n * up d * down e) (down e * down d)
-  unfolding sub
-  opened = refl
-
-  plus-part : over s (m * up e * down d) + over (not t) (n * up d * down e) ≡ cross s m e t n d
-  plus-part = ap₂ (λ (x y : ℕ). x + y) (over-mul s (m * up e) (down d)) (over-not t (n * up d * down e) ∙ under-mul t (n * up d) (down e))
-
-  minus-part : under s (m * up e * down d) + under (not t) (n * up d * down e) ≡ cross t n d s m e
-  minus-part =
-      ap₂ (λ (x y : ℕ). x + y) (under-mul s (m * up e) (down d)) (under-not t (n * up d * down e) ∙ over-mul t (n * up d) (down e))
-      ∙ add-comm (under s (m * up e) * down d) (over t (n * up d) * down e)
-
-  -- the difference is rounded once, from a whole number of units
+  -- the difference is rounded from a whole number of units
   sub-units : Rounded f (X .p + Y .n) (Y .p + X .n) (2 ^ low f) (sub f (fin s m e) (fin t n d))
   sub-units =
       rescaled f (cross s m e t n d) (cross t n d s m e) (down e * down d) (X .p + Y .n) (Y .p + X .n) (2 ^ low f) (sub f (fin s m e) (fin t n d))
-      positive (pow-pos (low f)) cross-units cross-units'
-      (rw (opened, ← plus-part, ← minus-part) (sum-is f s (m * up e * down d) (not t) (n * up d * down e) (down e * down d)))
+      (positive e d) (pow-pos (low f)) cross-units cross-units' (sub-rounded f s m e t n d)
 
--- ---- the difference of finite values
+-- ---- its sign, where they fit
 module _ (f : Format) (s : Bool) (m : ℕ) (e : ℤ) (t : Bool) (n : ℕ) (d : ℤ) (X : T (fits f (fin s m e))) (Y : T (fits f (fin t n d))) where
   U : Units f s m e
   U = units-of f s m e X
 
   W : Units f t n d
   W = units-of f t n d Y
-
-  sub-fin-number : Number (sub f (fin s m e) (fin t n d))
-  sub-fin-number =
-      let R = sub-units f s m e t n d U W in
-      rw (R .is) (round-number f (2 ^ low f) (pow-pos (low f)) (R .sign) (gap (U .p + W .n) (W .p + U .n)))
 
   sub-fin-ge : Le (fin t n d) (fin s m e) → Le float.zero (sub f (fin s m e) (fin t n d))
   sub-fin-ge h = rounded-ge f (2 ^ low f) (pow-pos (low f)) (U .p + W .n) (W .p + U .n) (le-units→ f t n d s m e W U h) (sub-units f s m e t n d U W)
@@ -327,16 +370,6 @@ module _ (f : Format) (s : Bool) (m : ℕ) (e : ℤ) (t : Bool) (n : ℕ) (d : �
         | inl a ↦ absurd (lt-not-le h (→le-units f s m e t n d U W a))
         | inr b ↦ rounded-gt f (2 ^ low f) (pow-pos (low f)) (U .p + W .n) (W .p + U .n) (ℕ-le-of-eq refl) b (sub-units f s m e t n d U W)
       ]
-
-  sub-fin-mono : (s' : Bool) (m' : ℕ) (e' : ℤ) (t' : Bool) (n' : ℕ) (d' : ℤ) → T (fits f (fin s' m' e')) → T (fits f (fin t' n' d'))
-      → Le (fin t' n' d') (fin t n d) → Le (fin s m e) (fin s' m' e') → Le (sub f (fin s m e) (fin t n d)) (sub f (fin s' m' e') (fin t' n' d'))
-  sub-fin-mono s' m' e' t' n' d' X' Y' h k =
-      let U' = units-of f s' m' e' X' in
-      let W' = units-of f t' n' d' Y' in
-      let a = le-units→ f t' n' d' t n d W' W h in
-      let b = le-units→ f s m e s' m' e' U U' k in
-      rounded-mono f (2 ^ low f) (pow-pos (low f)) (U .p + W .n) (W .p + U .n) (U' .p + W' .n) (W' .p + U' .n) (omega arith)
-      (sub-units f s m e t n d U W) (sub-units f s' m' e' t' n' d' U' W')
 
 -- ---- infinite operands: a difference that is a number is infinite
 inf-sub : (f : Format) (s : Bool) (y : Float) → Number (sub f (inf s) y) → sub f (inf s) y ≡ inf s
@@ -360,40 +393,39 @@ sub-number f (fin s m e) (inf t) N = (finite, infinite)
 sub-number f (fin s m e) (fin t n d) N = (finite, finite)
 
 -- a difference of numbers is a NaN only between infinities of one sign
-sub-nan : (f : Format) (x y : Float) → T (fits f x) → T (fits f y) → Number x → Number y → sub f x y ≡ nan → (s : Bool) × (x ≡ inf s) × (y ≡ inf s)
+sub-nan : (f : Format) (x y : Float) → Number x → Number y → sub f x y ≡ nan → (s : Bool) × (x ≡ inf s) × (y ≡ inf s)
 unfolding sub
-sub-nan f (inf true) (inf true) F G X Y h = (true, refl, refl)
-sub-nan f (inf true) (inf false) F G X Y h = absurd (number-no-nan infinite h)
-sub-nan f (inf false) (inf true) F G X Y h = absurd (number-no-nan infinite h)
-sub-nan f (inf false) (inf false) F G X Y h = (false, refl, refl)
-sub-nan f (inf s) (fin t n d) F G X Y h = absurd (number-no-nan infinite h)
-sub-nan f (fin s m e) (inf t) F G X Y h = absurd (number-no-nan infinite h)
-sub-nan f (fin s m e) (fin t n d) F G X Y h = absurd (number-no-nan (sub-fin-number f s m e t n d F G) h)
+sub-nan f (inf true) (inf true) X Y h = (true, refl, refl)
+sub-nan f (inf true) (inf false) X Y h = absurd (number-no-nan infinite h)
+sub-nan f (inf false) (inf true) X Y h = absurd (number-no-nan infinite h)
+sub-nan f (inf false) (inf false) X Y h = (false, refl, refl)
+sub-nan f (inf s) (fin t n d) X Y h = absurd (number-no-nan infinite h)
+sub-nan f (fin s m e) (inf t) X Y h = absurd (number-no-nan infinite h)
+sub-nan f (fin s m e) (fin t n d) X Y h = absurd (number-no-nan (sub-fin-number f s m e t n d) h)
 
 -- ---- the laws of a rounded difference
 module _ (f : Format) where
   -- it grows with the first and shrinks with the second
-  mono : (hi lo hi' lo' : Float) → T (fits f hi) → T (fits f lo) → T (fits f hi') → T (fits f lo') → Number hi → Number lo → Number hi' → Number lo'
+  mono : (hi lo hi' lo' : Float) → Number hi → Number lo → Number hi' → Number lo'
       → Le lo' lo → Le hi hi' → Number (sub f hi lo) → Number (sub f hi' lo') → Le (sub f hi lo) (sub f hi' lo')
   unfolding le
-  mono (inf true) lo hi' lo' F G F' G' N M N' M' h k P Q = rw (inf-sub f true lo P) (bottom Q)
-  mono (inf false) lo hi' lo' F G F' G' N M N' M' h k P Q =
+  mono (inf true) lo hi' lo' N M N' M' h k P Q = rw (inf-sub f true lo P) (bottom Q)
+  mono (inf false) lo hi' lo' N M N' M' h k P Q =
       subst (λ (z : Float). Le (sub f (inf false) lo) (sub f z lo')) (sym (above-top k))
       (rw (inf-sub f false lo' (subst (λ (z : Float). Number (sub f z lo')) (above-top k) Q)) (top P))
-  mono (fin s m e) (inf false) hi' lo' F G F' G' N M N' M' h k P Q = rw (sub-inf f (fin s m e) false P) (bottom Q)
-  mono (fin s m e) (inf true) hi' lo' F G F' G' N M N' M' h k P Q =
+  mono (fin s m e) (inf false) hi' lo' N M N' M' h k P Q = rw (sub-inf f (fin s m e) false P) (bottom Q)
+  mono (fin s m e) (inf true) hi' lo' N M N' M' h k P Q =
       subst (λ (z : Float). Le (sub f (fin s m e) (inf true)) (sub f hi' z)) (sym (below-bottom h))
       (rw (sub-inf f hi' true (subst (λ (z : Float). Number (sub f hi' z)) (below-bottom h) Q)) (top P))
-  mono (fin s m e) (fin t n d) (inf true) lo' F G F' G' N M N' M' h k P Q = absurd (k .test)
-  mono (fin s m e) (fin t n d) (inf false) lo' F G F' G' N M N' M' h k P Q = rw (inf-sub f false lo' Q) (top P)
-  mono (fin s m e) (fin t n d) (fin s' m' e') (inf true) F G F' G' N M N' M' h k P Q = rw (sub-inf f (fin s' m' e') true Q) (top P)
-  mono (fin s m e) (fin t n d) (fin s' m' e') (inf false) F G F' G' N M N' M' h k P Q = absurd (h .test)
-  mono (fin s m e) (fin t n d) (fin s' m' e') (fin t' n' d') F G F' G' N M N' M' h k P Q = sub-fin-mono f s m e t n d F G s' m' e' t' n' d' F' G' h k
+  mono (fin s m e) (fin t n d) (inf true) lo' N M N' M' h k P Q = absurd (k .test)
+  mono (fin s m e) (fin t n d) (inf false) lo' N M N' M' h k P Q = rw (inf-sub f false lo' Q) (top P)
+  mono (fin s m e) (fin t n d) (fin s' m' e') (inf true) N M N' M' h k P Q = rw (sub-inf f (fin s' m' e') true Q) (top P)
+  mono (fin s m e) (fin t n d) (fin s' m' e') (inf false) N M N' M' h k P Q = absurd (h .test)
+  mono (fin s m e) (fin t n d) (fin s' m' e') (fin t' n' d') N M N' M' h k P Q = sub-fin-mono f s m e t n d s' m' e' t' n' d' h k
 
-  pub sub-mono : {hi lo hi' lo' : Float} → T (fits f hi) → T (fits f lo) → T (fits f hi') → T (fits f lo')
-      → Le lo' lo → Le hi hi' → Number (sub f hi lo) → Number (sub f hi' lo') → Le (sub f hi lo) (sub f hi' lo')
-  sub-mono {hi} {lo} {hi'} {lo'} F G F' G' h k P Q =
-      mono hi lo hi' lo' F G F' G' (le-number k .0) (le-number h .1) (le-number k .1) (le-number h .0) h k P Q
+  pub sub-mono : {hi lo hi' lo' : Float} → Le lo' lo → Le hi hi' → Number (sub f hi lo) → Number (sub f hi' lo') → Le (sub f hi lo) (sub f hi' lo')
+  sub-mono {hi} {lo} {hi'} {lo'} h k P Q =
+      mono hi lo hi' lo' (le-number k .0) (le-number h .1) (le-number k .1) (le-number h .0) h k P Q
 
   -- lo ≤ hi: it is not below 0, and not −inf
   sub-ge : (hi lo : Float) → T (fits f hi) → T (fits f lo) → Le lo hi → Number (sub f hi lo) → Le float.zero (sub f hi lo)
@@ -453,12 +485,11 @@ module _ (f : Format) where
       lt-of-not-le (N .1) (N .0) (λ k. sub-not-neg F G k h)
 
   -- a wider difference is not −inf where the narrower is not
-  pub sub-wider : {hi lo hi' lo' : Float} → T (fits f hi) → T (fits f lo) → T (fits f hi') → T (fits f lo')
-      → Le lo' lo → Le hi hi' → (sub f hi lo ≡ inf true → ⊥) → sub f hi' lo' ≡ inf true → ⊥
-  sub-wider {hi} {lo} {hi'} {lo'} F G F' G' h k n e =
+  pub sub-wider : {hi lo hi' lo' : Float} → Le lo' lo → Le hi hi' → (sub f hi lo ≡ inf true → ⊥) → sub f hi' lo' ≡ inf true → ⊥
+  sub-wider {hi} {lo} {hi'} {lo'} h k n e =
       elim (nan-or-number (sub f hi lo)) [
-        | inr P ↦ n (below-bottom (subst (λ (z : Float). Le (sub f hi lo) z) e (sub-mono F G F' G' h k P Q)))
-        | inl q ↦ apart (sub-nan f hi lo F G (le-number k .0) (le-number h .1) q)
+        | inr P ↦ n (below-bottom (subst (λ (z : Float). Le (sub f hi lo) z) e (sub-mono h k P Q)))
+        | inl q ↦ apart (sub-nan f hi lo (le-number k .0) (le-number h .1) q)
       ]
     where
       Q : Number (sub f hi' lo')

@@ -1,4 +1,4 @@
--- What an x accepts, wrapped or not: nothing where it is empty, and nothing is lost by merging. Assumes nothing.
+-- What an x accepts, and what lies inside its pieces, wrapped or not: nothing is lost by merging. Assumes nothing.
 use mathlib.Core.Path.{_≡_, refl, sym, subst}
 use mathlib.Core.Logic.{_⊎_, inl, inr, ⊎-elim}
 use mathlib.Core.Bool.{Bool, true, false, not, _||_, cond}
@@ -12,10 +12,11 @@ use Rattle.sedona_geometry.specs.WraparoundInterval.{Accepts, fromInterv
 use Rattle.sedona_geometry.specs.declared.interval.Interval.{Interval}
 use Rattle.sedona_geometry.specs.declared.interval.WraparoundInterval.{WraparoundInterval}
 use Rattle.sedona_geometry.specs.declared.interval.Pieces.{Pieces}
-use Rattle.sedona_geometry.proofs.Order.{Number, infinite, Le, Lt, holds, fails, is-true, is-false, or-left, or-right, or-cases, le-of-lt, le-refl, le-trans, le-number, lt-number, lt-of-not-le, bottom, top, eq-inf, below-bottom, top-not-bottom, number-of-test, number-test}
+use Rattle.sedona_geometry.proofs.Order.{Number, infinite, Le, Lt, holds, fails, is-true, is-false, or-left, or-right, or-cases, le-of-lt, le-of-not-lt, le-refl, le-trans, le-number, lt-number, lt-of-not-le, bottom, top, eq-inf, below-bottom, top-not-bottom, number-of-test, number-test}
 use Rattle.sedona_geometry.proofs.MinMax.{min-le-left, max-ge-left}
 use Rattle.sedona_geometry.proofs.Rounding.{sub-not-neg, sub-neg, sub-pos, lt-of-sub-neg, sub-wider}
 use Rattle.sedona_geometry.proofs.Accepts as plain
+use Rattle.sedona_geometry.proofs.Accepts.{Contains, inside, contains, merge-contains-left, merge-contains-right, Solid}
 
 -- ---- which x wrap
 pub wrapped-not-empty : (x : WraparoundInterval) → isWraparound x ≡ true → T (isEmpty x) → ⊥
@@ -40,8 +41,7 @@ wider-wraps {x} {y} D E w h k l =
     is-true (isWraparound y)
     (and-i (not (isEmpty y)) (lt (interval.width (y .inner)) float.zero)
     (not-T (isEmpty y) (λ e.
-    sub-wider binary64 (D .hi) (D .lo) (E .hi) (E .lo) h k
-    (λ n. wrapped-not-empty x w (subst (λ (z : Float). T (eq z (inf true))) (sym n) tt)) (eq-inf (interval.width (y .inner)) true e)))
+    sub-wider binary64 h k (λ n. wrapped-not-empty x w (subst (λ (z : Float). T (eq z (inf true))) (sym n) tt)) (eq-inf (interval.width (y .inner)) true e)))
     (sub-neg binary64 (E .hi) (E .lo) l .test))
 
 -- ---- the pieces
@@ -69,6 +69,9 @@ accepts-cases {x} {v} h =
     ⊎-elim (λ a. inl (record { holds = is-true (interval.intersectsValue (split x .left) v) a })) (λ b. inr (record { holds = is-true (interval.intersectsValue (split x .right) v) b }))
     (or-cases (interval.intersectsValue (split x .left) v) (interval.intersectsValue (split x .right) v) (holds (h .holds)))
 
+accepts-number : {x : WraparoundInterval} {v : Float} → Accepts x v → Number v
+accepts-number h = ⊎-elim plain.accepts-number plain.accepts-number (accepts-cases h)
+
 -- ---- an x that does not wrap accepts what its interval does
 pub none-accepted : {v : Float} → interval.Accepts interval.empty v → ⊥
 none-accepted h = top-not-bottom (below-bottom (le-trans (plain.between h .0) (plain.between h .1)))
@@ -82,9 +85,6 @@ accepts-of-plain {x} {v} D h =
 
 pub infinite-doubles : (s t : Bool) → Doubles (interval.new (inf s) (inf t))
 infinite-doubles s t = record { lo = inf-fits binary64 s; hi = inf-fits binary64 t }
-
-pub full-accepts : {v : Float} → Number v → Accepts full v
-full-accepts N = accepts-of-plain (infinite-doubles true false) (plain.accepts (bottom N) (top N))
 
 pub empty-not-wrapped : (x : WraparoundInterval) → isEmpty x ≡ true → isWraparound x ≡ false
 empty-not-wrapped x e = is-false (isWraparound x) (λ w. wrapped-not-empty x (is-true (isWraparound x) w) (holds e))
@@ -103,6 +103,31 @@ pub wrapped-cases : {x : WraparoundInterval} {v : Float} → isWraparound x ≡ 
 wrapped-cases {x} {v} w h =
     ⊎-elim (λ a. inl (plain.between a .1)) (λ b. inr (plain.between b .0)) (subst (λ p. interval.Accepts (p .left) v ⊎ interval.Accepts (p .right) v) (split-wrapped x w) (accepts-cases h))
 
+-- ---- what lies inside some piece
+pub record Within (x : WraparoundInterval) (k : Interval) : Type 0 where
+  pub piece : Contains (split x .left) k ⊎ Contains (split x .right) k
+
+pub plain-within : {x : WraparoundInterval} {k : Interval} → isWraparound x ≡ false → Contains (x .inner) k → Within x k
+plain-within {x} {k} w h = record { piece = inl (subst (λ p. Contains (p .left) k) (sym (split-plain x w)) h) }
+
+pub empty-is-empty : interval.isEmpty interval.empty ≡ true
+unfolding interval.isEmpty sub eq
+empty-is-empty = refl
+
+pub within-plain : {x : WraparoundInterval} {k : Interval} → Solid k → isWraparound x ≡ false → Within x k → Contains (x .inner) k
+within-plain {x} {k} S w h =
+    ⊎-elim (λ a. a) (λ b. absurd (S .outside (infinite-doubles false true) empty-is-empty b))
+    (subst (λ p. Contains (p .left) k ⊎ Contains (p .right) k) (split-plain x w) (h .piece))
+
+-- a number is accepted where it lies there by itself
+within-of-accepts : {x : WraparoundInterval} {v : Float} → Accepts x v → Within x (interval.new v v)
+within-of-accepts h =
+    record { piece = ⊎-elim (λ a. inl (contains (plain.between a .0) (plain.between a .1))) (λ b. inr (contains (plain.between b .0) (plain.between b .1))) (accepts-cases h) }
+
+accepts-of-within : {x : WraparoundInterval} {v : Float} → Within x (interval.new v v) → Accepts x v
+accepts-of-within h =
+    ⊎-elim (λ a. accepts-left (plain.accepts (inside a .0) (inside a .1))) (λ b. accepts-right (plain.accepts (inside b .0) (inside b .1))) (h .piece)
+
 -- ---- joining two pieces that reach around those of a wrapped x
 record Around (x : WraparoundInterval) (l r : Interval) : Type 0 where
   left-lo : Le (l .lo) (inf true)
@@ -110,23 +135,28 @@ record Around (x : WraparoundInterval) (l r : Interval) : Type 0 where
   right-lo : Le (r .lo) (x .inner .lo)
   right-hi : Le (inf false) (r .hi)
 
-from-pieces-accepts : {x : WraparoundInterval} {l r : Interval} {v : Float} → Doubles (x .inner) → Doubles l → Doubles r → isWraparound x ≡ true → Around x l r
-    → interval.Accepts l v ⊎ interval.Accepts r v → Accepts (fromPieces l r) v
+from-pieces-within : {x : WraparoundInterval} {l r k : Interval} → Doubles (x .inner) → Doubles l → Doubles r → isWraparound x ≡ true → Around x l r
+    → Contains l k ⊎ Contains r k → Within (fromPieces l r) k
 unfolding fromPieces interval.intersectsInterval
-from-pieces-accepts {x} {l} {r} {v} D L R w a h = go (interval.intersectsInterval l r) refl
+from-pieces-within {x} {l} {r} {k} D L R w a h = go (interval.intersectsInterval l r) refl
   where
+    N : Number (k .lo) × Number (k .hi)
+    N = ⊎-elim plain.contained-numbers plain.contained-numbers h
+
     apart : interval.intersectsInterval l r ≡ false → Lt (l .hi) (r .lo)
     apart e =
         lt-of-not-le (le-number (a .right-lo) .0) (le-number (a .left-hi) .1) (λ k.
         fails e
         (and-i (le (l .lo) (r .hi)) (le (r .lo) (l .hi)) (le-trans (a .left-lo) (bottom (le-number (a .right-hi) .1)) .test) (k .test)))
 
-    wraps : interval.intersectsInterval l r ≡ false → isWraparound (new (r .lo) (l .hi)) ≡ true
-    wraps e = wider-wraps D (record { lo = R .lo; hi = L .hi }) w (a .right-lo) (a .left-hi) (apart e)
+    pieces : interval.intersectsInterval l r ≡ false → split (new (r .lo) (l .hi)) ≡ wrappedPieces (interval.new (r .lo) (l .hi))
+    pieces e = split-wrapped (new (r .lo) (l .hi)) (wider-wraps D (record { lo = R .lo; hi = L .hi }) w (a .right-lo) (a .left-hi) (apart e))
 
-    go : (b : Bool) → interval.intersectsInterval l r ≡ b → Accepts (cond b full (new (r .lo) (l .hi))) v
-    go true e = full-accepts (⊎-elim plain.accepts-number plain.accepts-number h)
-    go false e = ⊎-elim (λ k. wrapped-accepts-left (wraps e) (plain.between k .1)) (λ k. wrapped-accepts-right (wraps e) (plain.between k .0)) h
+    go : (b : Bool) → interval.intersectsInterval l r ≡ b → Within (cond b full (new (r .lo) (l .hi))) k
+    go true e = plain-within (low-to-high-plain (infinite-doubles true false) (bottom infinite)) (contains (bottom (N .0)) (top (N .1)))
+    go false e = record {
+      piece = rw (pieces e) (⊎-elim (λ c. inl (contains (bottom (N .0)) (inside c .1))) (λ c. inr (contains (inside c .0) (top (N .1)))) h);
+    }
 
 split-doubles : (x : WraparoundInterval) → Doubles (x .inner) → Doubles (split x .left) × Doubles (split x .right)
 unfolding split
@@ -172,60 +202,78 @@ module _ (x : WraparoundInterval) (D : Doubles (x .inner)) (w : isWraparound x �
     right-hi = le-trans (a .right-hi) (merge-around-right r j (le-number (a .right-hi) .1));
   }
 
-  merge-wrapped-accepts : {y : WraparoundInterval} {v : Float} → Doubles (y .inner) → Accepts x v ⊎ Accepts y v → Accepts (mergeWrapped x y) v
-  unfolding mergeWrapped
-  merge-wrapped-accepts {y} {v} E h =
-      from-pieces-accepts D
-      (plain.merge-doubles (split-doubles x D .0) (split-doubles y E .0)) (plain.merge-doubles (split-doubles x D .1) (split-doubles y E .1))
-      w (around-left (split y .left) (around-right (split y .right) around-pieces))
-      (⊎-elim
-      (λ a. ⊎-elim (λ k. inl (plain.merge-accepts-left (split y .left) k)) (λ k. inr (plain.merge-accepts-left (split y .right) k)) (accepts-cases a))
-      (λ b. ⊎-elim (λ k. inl (plain.merge-accepts-right (split x .left) k)) (λ k. inr (plain.merge-accepts-right (split x .right) k)) (accepts-cases b))
-      h)
+  module _ {y : WraparoundInterval} {k : Interval} (E : Doubles (y .inner)) where
+    merge-wrapped-within : Within x k ⊎ Within y k → Within (mergeWrapped x y) k
+    unfolding mergeWrapped
+    merge-wrapped-within h =
+        from-pieces-within D
+        (plain.merge-doubles (split-doubles x D .0) (split-doubles y E .0)) (plain.merge-doubles (split-doubles x D .1) (split-doubles y E .1))
+        w (around-left (split y .left) (around-right (split y .right) around-pieces))
+        (⊎-elim
+        (λ a. ⊎-elim (λ c. inl (merge-contains-left (split y .left) c)) (λ c. inr (merge-contains-left (split y .right) c)) (a .piece))
+        (λ b. ⊎-elim (λ c. inl (merge-contains-right (split x .left) c)) (λ c. inr (merge-contains-right (split x .right) c)) (b .piece))
+        h)
 
-  -- whichever piece the plain one joins
-  merge-plain-accepts : {y : WraparoundInterval} {v : Float} → Doubles (y .inner) → isWraparound y ≡ false → Accepts x v ⊎ Accepts y v → Accepts (mergePlain x y) v
-  unfolding mergePlain
-  merge-plain-accepts {y} {v} E u h = go (nearerLeft x y)
+    -- whichever piece the plain one joins
+    merge-plain-within : Within x k ⊎ Contains (y .inner) k → Within (mergePlain x y) k
+    unfolding mergePlain
+    merge-plain-within h = go (nearerLeft x y)
+      where
+        go : (b : Bool) → Within (cond b (fromPieces (interval.mergeInterval (split x .left) (y .inner)) (split x .right)) (fromPieces (split x .left) (interval.mergeInterval (split x .right) (y .inner)))) k
+        go true =
+            from-pieces-within D (plain.merge-doubles (split-doubles x D .0) E) (split-doubles x D .1) w (around-left (y .inner) around-pieces)
+            (⊎-elim (λ a. ⊎-elim (λ c. inl (merge-contains-left (y .inner) c)) (λ c. inr c) (a .piece)) (λ c. inl (merge-contains-right (split x .left) c)) h)
+        go false =
+            from-pieces-within D (split-doubles x D .0) (plain.merge-doubles (split-doubles x D .1) E) w (around-right (y .inner) around-pieces)
+            (⊎-elim (λ a. ⊎-elim (λ c. inl c) (λ c. inr (merge-contains-left (y .inner) c)) (a .piece)) (λ c. inr (merge-contains-right (split x .right) c)) h)
+
+-- what does not wrap, is not empty and has no NaN runs low to high
+plain-low-to-high : {x : WraparoundInterval} → Doubles (x .inner) → isWraparound x ≡ false → isEmpty x ≡ false → Number (x .inner .lo) → Number (x .inner .hi)
+    → Le (x .inner .lo) (x .inner .hi)
+unfolding isWraparound
+plain-low-to-high {x} D w e L H =
+    le-of-not-lt H L (λ h.
+    fails w (and-i (not (isEmpty x)) (lt (interval.width (x .inner)) float.zero) (not-T (isEmpty x) (fails e)) (sub-neg binary64 (D .hi) (D .lo) h .test)))
+
+-- What lies inside a piece of either, and inside no empty interval, lies inside a piece of both merged.
+module _ {x y : WraparoundInterval} {k : Interval} (D : Doubles (x .inner)) (E : Doubles (y .inner)) (S : Solid k) where
+  -- a plain x around k, and what contains all that it contains
+  wider-within : {x : WraparoundInterval} {i : Interval} → Doubles (x .inner) → Doubles i → isWraparound x ≡ false → ((j : Interval) → Contains (x .inner) j → Contains i j)
+      → Within x k → Within (fromInterval i) k
+  wider-within {x} {i} D E w keep h =
+      let c = within-plain S w h in
+      let N = plain.containing-numbers c in
+      let l = plain-low-to-high D w (is-false (isEmpty x) (λ e. S .outside D (is-true (isEmpty x) e) c)) (N .0) (N .1) in
+      plain-within (low-to-high-plain E (plain.contains-low-to-high (keep (x .inner) (plain.contains-itself (N .0) (N .1))) l)) (keep k c)
+
+  merge-non-empty-within : Within x k ⊎ Within y k → Within (mergeNonEmpty x y) k
+  unfolding mergeNonEmpty
+  merge-non-empty-within h = go (isWraparound x) (isWraparound y) refl refl
     where
-      go : (b : Bool) → Accepts (cond b (fromPieces (interval.mergeInterval (split x .left) (y .inner)) (split x .right)) (fromPieces (split x .left) (interval.mergeInterval (split x .right) (y .inner)))) v
-      go true =
-          from-pieces-accepts D (plain.merge-doubles (split-doubles x D .0) E) (split-doubles x D .1) w (around-left (y .inner) around-pieces)
-          (⊎-elim
-          (λ a. ⊎-elim (λ k. inl (plain.merge-accepts-left (y .inner) k)) (λ k. inr k) (accepts-cases a))
-          (λ b. inl (plain.merge-accepts-right (split x .left) (plain-of-accepts u b)))
-          h)
-      go false =
-          from-pieces-accepts D (split-doubles x D .0) (plain.merge-doubles (split-doubles x D .1) E) w (around-right (y .inner) around-pieces)
-          (⊎-elim
-          (λ a. ⊎-elim (λ k. inl k) (λ k. inr (plain.merge-accepts-left (y .inner) k)) (accepts-cases a))
-          (λ b. inr (plain.merge-accepts-right (split x .right) (plain-of-accepts u b)))
-          h)
+      go : (a b : Bool) → isWraparound x ≡ a → isWraparound y ≡ b
+          → Within (cond a (cond b (mergeWrapped x y) (mergePlain x y)) (cond b (mergePlain y x) (fromInterval (interval.mergeInterval (x .inner) (y .inner))))) k
+      go true true w u = merge-wrapped-within x D w E h
+      go true false w u = merge-plain-within x D w E (⊎-elim (λ a. inl a) (λ b. inr (within-plain S u b)) h)
+      go false true w u = merge-plain-within y E u D (⊎-elim (λ a. inr (within-plain S w a)) (λ b. inl b) h)
+      go false false w u =
+          ⊎-elim
+          (λ a. wider-within D (plain.merge-doubles D E) w (λ j. merge-contains-left (y .inner)) a)
+          (λ b. wider-within E (plain.merge-doubles D E) u (λ j. merge-contains-right (x .inner)) b)
+          h
 
-swap : {A B : Type 0} → A ⊎ B → B ⊎ A
-swap h = ⊎-elim (λ a. inr a) (λ b. inl b) h
-
-merge-non-empty-accepts : {x y : WraparoundInterval} {v : Float} → Doubles (x .inner) → Doubles (y .inner) → Accepts x v ⊎ Accepts y v → Accepts (mergeNonEmpty x y) v
-unfolding mergeNonEmpty
-merge-non-empty-accepts {x} {y} {v} D E h = go (isWraparound x) (isWraparound y) refl refl
-  where
-    go : (a b : Bool) → isWraparound x ≡ a → isWraparound y ≡ b
-        → Accepts (cond a (cond b (mergeWrapped x y) (mergePlain x y)) (cond b (mergePlain y x) (fromInterval (interval.mergeInterval (x .inner) (y .inner))))) v
-    go true true w u = merge-wrapped-accepts x D w E h
-    go true false w u = merge-plain-accepts x D w E u h
-    go false true w u = merge-plain-accepts y E u D w (swap h)
-    go false false w u =
-        accepts-of-plain (plain.merge-doubles D E)
-        (⊎-elim (λ a. plain.merge-accepts-left (y .inner) (plain-of-accepts w a)) (λ b. plain.merge-accepts-right (x .inner) (plain-of-accepts u b)) h)
+  pub merge-within : Within x k ⊎ Within y k → Within (mergeInterval x y) k
+  unfolding mergeInterval
+  merge-within h = go (isEmpty x) (isEmpty y) refl refl
+    where
+      go : (a b : Bool) → isEmpty x ≡ a → isEmpty y ≡ b → Within (cond a y (cond b x (mergeNonEmpty x y))) k
+      go true b e f = ⊎-elim (λ a. absurd (S .outside D e (within-plain S (empty-not-wrapped x e) a))) (λ b. b) h
+      go false true e f = ⊎-elim (λ a. a) (λ b. absurd (S .outside E f (within-plain S (empty-not-wrapped y f) b))) h
+      go false false e f = merge-non-empty-within h
 
 pub merge-accepts : {x y : WraparoundInterval} {v : Float} → Doubles (x .inner) → Doubles (y .inner) → Accepts x v ⊎ Accepts y v → Accepts (mergeInterval x y) v
-unfolding mergeInterval
-merge-accepts {x} {y} {v} D E h = go (isEmpty x) (isEmpty y) refl refl
-  where
-    go : (a b : Bool) → isEmpty x ≡ a → isEmpty y ≡ b → Accepts (cond a y (cond b x (mergeNonEmpty x y))) v
-    go true b e f = ⊎-elim (λ k. absurd (empty-accepts-nothing D e k)) (λ k. k) h
-    go false true e f = ⊎-elim (λ k. k) (λ k. absurd (empty-accepts-nothing E f k)) h
-    go false false e f = merge-non-empty-accepts D E h
+merge-accepts D E h =
+    let N = ⊎-elim accepts-number accepts-number h in
+    accepts-of-within (merge-within D E (plain.low-to-high-solid (le-refl N)) (⊎-elim (λ a. inl (within-of-accepts a)) (λ b. inr (within-of-accepts b)) h))
 
 -- ---- merged ends are doubles
 from-pieces-doubles : {l r : Interval} → Doubles l → Doubles r → Doubles (fromPieces l r .inner)

@@ -68,9 +68,17 @@ piecesIntersect p i = interval.intersectsInterval i (p .left) || interval.inters
 unfoldable pub intersectsInterval : WraparoundInterval → WraparoundInterval → Bool
 intersectsInterval x y = piecesIntersect (split y) (split x .left) || piecesIntersect (split y) (split x .right)
 
--- The first piece contains the first, the second the second.
+-- The interval is empty, or lies inside one of the pieces. One with NaN is not empty, and lies in none.
+unfoldable pub piecesContain : Pieces → Interval → Bool
+piecesContain p i = interval.isEmpty i || interval.containsInterval (p .left) i || interval.containsInterval (p .right) i
+
+-- Request 5: "every non-empty piece of the other lies inside some piece of the first by plain `contains_interval`".
 unfoldable pub containsInterval : WraparoundInterval → WraparoundInterval → Bool
-containsInterval x y =
+containsInterval x y = piecesContain (split x) (split y .left) && piecesContain (split x) (split y .right)
+
+-- As the Rust has it: the first piece contains the first, the second the second.
+unfoldable pub containsOneByOne : WraparoundInterval → WraparoundInterval → Bool
+containsOneByOne x y =
     interval.containsInterval (split x .left) (split y .left) && interval.containsInterval (split x .right) (split y .right)
 
 unfoldable pub width : WraparoundInterval → Float

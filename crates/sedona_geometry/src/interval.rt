@@ -156,6 +156,14 @@ impl Pieces {
     {
         other.intersects_interval(self.left) || other.intersects_interval(self.right)
     }
+
+    // Whether the interval is empty, or one of the pieces contains it.
+    fn contain(self, other: Interval) -> bool
+        ensures { λ r. ⌜ r ≡ wraparound.piecesContain self other ⌝ }
+    {
+        other.is_empty()
+            || (self.left.contains_interval(other) || self.right.contains_interval(other))
+    }
 }
 
 // A plain interval, or the number that refuses it.
@@ -251,13 +259,13 @@ impl WraparoundInterval {
         b.intersect(a.left) || b.intersect(a.right)
     }
 
-    // Whether the first piece contains the other's first, and the second its second.
+    // Whether every piece of the other that is not empty lies inside some piece.
     pub fn contains_interval(self, other: WraparoundInterval) -> bool
         ensures { λ r. ⌜ r ≡ wraparound.containsInterval self other ⌝ }
     {
         let a = self.split();
         let b = other.split();
-        a.left.contains_interval(b.left) && a.right.contains_interval(b.right)
+        a.contain(b.left) && a.contain(b.right)
     }
 
     // The width; of a wrapped x infinity.

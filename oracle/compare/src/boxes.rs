@@ -5,6 +5,7 @@ use crate::compared::{Answer, Call, Given, NUMBER, TEST};
 use crate::layout::{BAD_FLAGS, Bounds, TWO_PARTS};
 use johikape::raw::*;
 use oracle::bounding_box::BoundingBox;
+use oracle::containing::box_contains;
 
 pub fn calls() -> Vec<Call<BoxCase>> {
     vec![
@@ -13,7 +14,7 @@ pub fn calls() -> Vec<Call<BoxCase>> {
             johikape_box_intersects,
             BoundingBox::intersects,
         ),
-        test("box_contains", johikape_box_contains, BoundingBox::contains),
+        test("box_contains", johikape_box_contains, box_contains),
         join("box_merge", johikape_box_merge, |a, b| {
             let mut merged = a.clone();
             merged.update_box(b);

@@ -5,6 +5,7 @@ use crate::compared::{Answer, Call, Given, NUMBER, TEST, Words};
 use crate::layout::{Bounds, TWO_PARTS};
 use johikape::Interval;
 use johikape::raw::*;
+use oracle::containing::x_contains;
 use oracle::interval::{Interval as Plain, IntervalTrait, WraparoundInterval as X};
 
 #[rustfmt::skip]
@@ -26,7 +27,7 @@ pub fn calls() -> Vec<Call<IntervalCase>> {
         alone("x_wraps", johikape_x_wraps, X::is_wraparound),
         with_value("x_accepts", johikape_x_accepts, X::intersects_value),
         with_other("x_intersects", johikape_x_intersects, X::intersects_interval),
-        with_other("x_contains", johikape_x_contains, X::contains_interval),
+        with_other("x_contains", johikape_x_contains, x_contains),
         alone("x_is_empty", johikape_x_is_empty, X::is_empty),
         alone("x_width", johikape_x_width, X::width),
         alone("x_mid", johikape_x_mid, X::mid),

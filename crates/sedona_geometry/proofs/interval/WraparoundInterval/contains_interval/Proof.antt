@@ -9,9 +9,9 @@ returns c =
     rw (
       ← c .before .before .before .before .split .ensures,
       ← c .before .before .before .split2 .ensures,
-      ← c .before .before .contains-interval .ensures,
+      ← c .before .before .contain .ensures,
       c .before .if1 .taken,
-      c .contains-interval2 .ensures,
+      c .contain2 .ensures,
     )
 
 returns-2 : tie.Need-returns-2
@@ -20,7 +20,7 @@ returns-2 c =
     rw (
       ← c .before .before .before .split .ensures,
       ← c .before .before .split2 .ensures,
-      ← c .before .contains-interval .ensures,
+      ← c .before .contain .ensures,
       c .if1 .left,
     )
 
