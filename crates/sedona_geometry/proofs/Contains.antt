@@ -1,6 +1,6 @@
 -- What an x contains: merging keeps it, and an intersection of two that run low to high keeps what both contain and accepts what both accept.
 -- Assumes nothing.
-use mathlib.Core.Path.{_≡_, refl, sym, subst, _∙_}
+use mathlib.Core.Path.{_≡_, refl, sym, _∙_}
 use mathlib.Core.Logic.{_⊎_, inl, inr, ⊎-elim, _↔_}
 use mathlib.Core.Bool.{Bool, true, false, _||_, cond, and-true}
 use lib.Dec.{T}
@@ -12,13 +12,12 @@ use Rattle.sedona_geometry.specs.Interval.{Doubles}
 use Rattle.sedona_geometry.specs.WraparoundInterval.{Accepts, fromInterval, isEmpty, isWraparound, split, piecesContain, containsInterval, containsOneByOne, mergeInterval, mergeNonEmpty, intersection}
 use Rattle.sedona_geometry.specs.declared.interval.Interval.{Interval}
 use Rattle.sedona_geometry.specs.declared.interval.WraparoundInterval.{WraparoundInterval}
-use Rattle.sedona_geometry.specs.declared.interval.Pieces.{Pieces}
 use Rattle.sedona_geometry.specs.declared.interval.Intersection.{Intersection}
 use Rattle.sedona_geometry.proofs.Order.{Number, Le, holds, fails, is-true, is-false, or-left, or-right, or-cases, le-of-eq, le-of-not-lt, le-refl, le-trans, le-number, lt-not-le}
 use Rattle.sedona_geometry.proofs.MinMax.{min-le-left, min-le-right, min-greatest, min-fits, max-ge-left, max-ge-right, max-least, max-fits}
 use Rattle.sedona_geometry.proofs.Rounding.{sub-number}
 use Rattle.sedona_geometry.proofs.Accepts as plain
-use Rattle.sedona_geometry.proofs.Accepts.{Contains, inside, contains, Solid, non-empty-solid}
+use Rattle.sedona_geometry.proofs.Accepts.{Contains, inside, contains, non-empty-solid}
 use Rattle.sedona_geometry.proofs.Wrapping.{Within, split-plain, low-to-high-plain, empty-not-wrapped, empty-is-empty, plain-within, within-plain, merge-within, plain-of-accepts, accepts-of-plain, none-accepted, infinite-doubles}
 
 low-to-high-not-empty : {x : WraparoundInterval} → Doubles (x .inner) → Le (x .inner .lo) (x .inner .hi) → isEmpty x ≡ false
@@ -91,25 +90,22 @@ module _ {x y : WraparoundInterval} (D : Doubles (x .inner)) (E : Doubles (y .in
       (merge-piece-in (⊎-elim (λ a. inl (pieces-in x k a .0)) (λ b. inr (pieces-in y k b .0)) h))
       (merge-piece-in (⊎-elim (λ a. inl (pieces-in x k a .1)) (λ b. inr (pieces-in y k b .1)) h))
 
+-- ---- an x that does not wrap is contained where its interval is
+contains-one-piece : (x k : WraparoundInterval) → isWraparound k ≡ false → containsInterval x k ≡ piecesContain (split x) (k .inner)
+unfolding containsInterval
+contains-one-piece x k u =
+    rw (split-plain k u, is-true (piecesContain (split x) interval.empty) (in-piece x interval.empty (inl empty-is-empty))) (and-true (piecesContain (split x) (k .inner)))
+
 -- ---- where neither wraps and the other is not empty, it is `contains_interval` of the two intervals, end by end
 pub contains-plain : (x k : WraparoundInterval) → isWraparound x ≡ false → isWraparound k ≡ false → isEmpty k ≡ false
     → containsInterval x k ≡ interval.containsInterval (x .inner) (k .inner)
-contains-plain x k w u n = go (interval.containsInterval (x .inner) (k .inner)) refl
+contains-plain x k w u n = contains-one-piece x k u ∙ go (interval.containsInterval (x .inner) (k .inner)) refl
   where
-    S : Solid (k .inner)
-    S = non-empty-solid n
-
-    left : containsInterval x k ≡ true → PieceIn x (k .inner)
-    left h = subst (λ (p : Pieces). PieceIn x (p .left)) (split-plain k u) (pieces-in x k h .0)
-
-    go : (b : Bool) → interval.containsInterval (x .inner) (k .inner) ≡ b → containsInterval x k ≡ b
-    go true e =
-        in-pieces x k
-        (subst (λ (p : Pieces). PieceIn x (p .left)) (sym (split-plain k u)) (inr (plain-within w (record { holds = e }))))
-        (subst (λ (p : Pieces). PieceIn x (p .right)) (sym (split-plain k u)) (inl empty-is-empty))
+    go : (b : Bool) → interval.containsInterval (x .inner) (k .inner) ≡ b → piecesContain (split x) (k .inner) ≡ b
+    go true e = is-true (piecesContain (split x) (k .inner)) (in-piece x (k .inner) (inr (plain-within w (record { holds = e }))))
     go false e =
-        is-false (containsInterval x k) (λ h.
-        ⊎-elim (λ a. fails n (holds a)) (λ i. fails e (holds (within-plain S w i .holds))) (left (is-true (containsInterval x k) h)))
+        is-false (piecesContain (split x) (k .inner)) (λ h.
+        ⊎-elim (λ a. fails n (holds a)) (λ i. fails e (holds (within-plain (non-empty-solid n) w i .holds))) (piece-in x (k .inner) h))
 
 one-by-one-plain : (x k : WraparoundInterval) → isWraparound x ≡ false → isWraparound k ≡ false
     → containsOneByOne x k ≡ interval.containsInterval (x .inner) (k .inner)
