@@ -1,13 +1,14 @@
 -- Why demand 3 asks what it asks: examples in which a hypothesis fails, and the conclusion with it. Assumes nothing.
 use mathlib.Core.Path.{_≡_, refl}
 use mathlib.Core.Bool.{true, false}
+use mathlib.Core.Logic.{inl}
 use Prim.Native.Nat.{ℕ, _^_}
 use lib.IntN.{pos}
-use lib.Ieee.{Float, nan, inf, binary64, add, sub, div, lt, le, eq, isNan, round, ofInt}
+use lib.Ieee.{Float, nan, inf, binary64, fits, add, sub, div, lt, le, eq, isNan, round, ofInt}
 use Rattle.sedona_geometry.specs.Float.{minNum, maxNum, abs}
 use Rattle.sedona_geometry.specs.Interval as interval
 use Rattle.sedona_geometry.specs.WraparoundInterval as wraparound
-use Rattle.sedona_geometry.specs.BoundingBox.{xy, xyzm, testKnown, joinKnown, contains, mergeBox, withX, intersection}
+use Rattle.sedona_geometry.specs.BoundingBox.{xy, xyzm, testKnown, joinKnown, contains, mergeBox, withX, intersection, Common}
 use Rattle.sedona_geometry.specs.Types.{fromBits}
 use Rattle.sedona_geometry.specs.declared.bounding_box.Dimension as Dimension
 use Rattle.sedona_geometry.specs.declared.bounding_box.Dimension.{Dimension}
@@ -15,6 +16,7 @@ use Rattle.sedona_geometry.specs.declared.bounding_box.BoundingBox.{BoundingBox
 use Rattle.sedona_expr.specs.Statistics.{mergeBboxes, mergeTypes}
 use Rattle.sedona_expr.specs.SpatialFilter.{Filter, intersects, covers, and, or, boxFor, orFull, isZ, hasZType, mayBeZ, isKnownEmpty, hasEmptyZ, mayHaveZ}
 use Rattle.sedona_expr.specs.Tables.{column}
+use Rattle.sedona_expr.specs.Demand.{Holds}
 use Rattle.sedona_expr.specs.declared.statistics.Bbox as Bbox
 use Rattle.sedona_expr.specs.declared.statistics.Bbox.{Bbox}
 use Rattle.sedona_expr.specs.declared.statistics.GeometryTypes as GeometryTypes
@@ -37,14 +39,28 @@ pub a-falling-literal : (contains (of-y (plus 4) (plus 4)) (of-y (plus 5) (plus 
 unfolding sub lt le eq isNan round ofInt interval.containsInterval interval.isEmpty wraparound.isWraparound wraparound.split wraparound.piecesContain wraparound.containsInterval testKnown contains
 a-falling-literal = (refl, refl)
 
--- The same of x, where a literal wraps. The filter holds of the point 10, by its two Intersects, and its box is (20, 0).
-abbrev in-column-0 : BoundingBox → Filter
-in-column-0 k = or (intersects (column 0 0) (of-x (plus 10) (plus 10))) (covers (column 0 0) k)
+-- The same of x, where literals wrap: the filter holds of the point 10, and its box is (20, 0).
+abbrev ten : BoundingBox
+ten = of-x (plus 10) (plus 10)
 
-pub a-wrapped-literal : (boxFor 0 (and (in-column-0 (of-x (plus 20) (plus 5))) (in-column-0 (of-x (plus 15) (plus 0)))) ≡ of-x (plus 20) (plus 0))
-    × (contains (of-x (plus 20) (plus 0)) (of-x (plus 10) (plus 10)) ≡ false)
+abbrev ten-or : BoundingBox → Filter
+ten-or k = or (intersects (column 0 0) ten) (covers (column 0 0) k)
+
+abbrev two-that-wrap : Filter
+two-that-wrap = and (ten-or (of-x (plus 20) (plus 5))) (ten-or (of-x (plus 15) (plus 0)))
+
+ten-meets-itself : Common ten ten
+unfolding fits sub lt le eq isNan round ofInt interval.intersectsValue interval.isEmpty wraparound.isWraparound wraparound.split wraparound.intersectsValue
+ten-meets-itself = record {
+  x = record { number = plus 10; double = tt; left = record { holds = refl }; right = record { holds = refl } };
+  y = record { number = plus 0; double = tt; left = record { holds = refl }; right = record { holds = refl } };
+  z = tt;
+  m = tt;
+}
+
+pub wrapped-literals : Holds (λ c. record { bbox = Bbox.Known ten; bit = 1 }) two-that-wrap × (boxFor 0 two-that-wrap ≡ of-x (plus 20) (plus 0)) × (contains (of-x (plus 20) (plus 0)) ten ≡ false)
 unfolding add sub div lt le eq isNan round ofInt minNum maxNum abs interval.intersectsInterval interval.containsInterval interval.isEmpty interval.mergeInterval interval.intersection wraparound.isWraparound wraparound.split wraparound.mid wraparound.piecesContain wraparound.containsInterval wraparound.fromPieces wraparound.nearerLeft wraparound.mergePlain wraparound.mergeNonEmpty wraparound.mergeInterval wraparound.intersectWrapped wraparound.intersection testKnown joinKnown contains mergeBox withX intersection orFull
-a-wrapped-literal = (refl, refl)
+wrapped-literals = ((inl ten-meets-itself, inl ten-meets-itself), refl, refl)
 
 -- A box with z.
 abbrev of-z : Float → Float → Bbox

@@ -119,9 +119,9 @@ pub of-all : Answers wraparound.full ((wraparound.new (plus 170) (minus 170), tr
 unfolding sub neg lt le eq isNan round ofInt interval.containsInterval interval.isEmpty wraparound.isWraparound wraparound.split wraparound.piecesContain wraparound.containsInterval
 of-all = (refl, (refl, (refl, (refl, tt))))
 
-pub of-nan : Answers (wraparound.new nan (plus 5)) ((wraparound.new (plus 1) (plus 2), false) ∷ (wraparound.new nan (plus 5), false) ∷ (wraparound.empty, true) ∷ [])
-unfolding sub lt le eq isNan round ofInt interval.containsInterval interval.isEmpty wraparound.isWraparound wraparound.split wraparound.piecesContain wraparound.containsInterval
-of-nan = (refl, (refl, (refl, tt)))
+pub of-nan : Answers (wraparound.new nan (plus 5)) ((wraparound.new (plus 1) (plus 2), false) ∷ (wraparound.new nan (plus 5), false) ∷ (wraparound.empty, true) ∷ (rounded-empty, true) ∷ [])
+unfolding sub neg lt le eq isNan round ofInt ofBits interval.containsInterval interval.isEmpty wraparound.isWraparound wraparound.split wraparound.piecesContain wraparound.containsInterval
+of-nan = (refl, (refl, (refl, (refl, tt))))
 
 -- No double lies in the gap, and yet (0, 1) lies in no piece.
 pub of-a-gap-without-a-double : Answers (wraparound.new smallest (plus 0)) ((wraparound.new (plus 0) (plus 1), false) ∷ (wraparound.new (plus 0) (plus 0), true) ∷ [])
