@@ -1,4 +1,4 @@
--- `WraparoundInterval` of interval.rs, method by method.
+-- `WraparoundInterval` of interval.rs, method by method; but what an x contains is by request 5.
 use mathlib.Core.Path.{_≡_}
 use mathlib.Core.Bool.{Bool, true, false, not, _&&_, _||_, cond}
 use lib.Dec.{T}
