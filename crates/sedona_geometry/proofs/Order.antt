@@ -315,9 +315,3 @@ le-of-not-lt X Y n = elim (le-or-lt Y X) [ inl h ↦ h | inr h ↦ absurd (n h) 
 
 pub lt-le-trans : {x y z : Float} → Lt x y → Le y z → Lt x z
 lt-le-trans h k = lt-of-not-le (le-number k .1) (lt-number h .0) (λ l. lt-not-le h (le-trans k l))
-
-pub le-lt-trans : {x y z : Float} → Le x y → Lt y z → Lt x z
-le-lt-trans h k = lt-of-not-le (lt-number k .1) (le-number h .0) (λ l. lt-not-le k (le-trans l h))
-
-pub eq-of-le : {x y : Float} → Le x y → Le y x → T (eq x y)
-eq-of-le h k = elim (le-cases h) [ inl a ↦ absurd (lt-not-le (record { test = a }) k) | inr b ↦ b ]
