@@ -4,7 +4,7 @@ use mathlib.Core.Bool.{true, false}
 use lib.Dec.{T}
 use lib.Ieee.{Float, inf, binary64, le, eq, fits}
 use lib.Ieee.Fits.{and-l, and-r, and-i}
-use Rattle.sedona_geometry.specs.Interval.{Doubles, Accepts, width, intersectsValue, intersectsInterval, containsInterval, isEmpty, mergeInterval, mergeValue}
+use Rattle.sedona_geometry.specs.Interval.{Doubles, Accepts, new, width, intersectsValue, intersectsInterval, containsInterval, isEmpty, mergeInterval, mergeValue}
 use Rattle.sedona_geometry.specs.declared.interval.Interval.{Interval}
 use Rattle.sedona_geometry.proofs.Order.{Number, Le, holds, fails, is-true, le-refl, le-trans, le-number, eq-inf}
 use Rattle.sedona_geometry.proofs.MinMax.{min-le-left, min-le-right, min-fits, max-ge-left, max-ge-right, max-fits}
@@ -57,6 +57,13 @@ pub accepts : {i : Interval} {v : Float} → Le (i .lo) v → Le v (i .hi) → A
 unfolding intersectsValue
 accepts {i} {v} h k = record { holds = is-true (intersectsValue i v) (and-i (le (i .lo) v) (le v (i .hi)) (h .test) (k .test)) }
 
+-- a number is accepted where it lies inside by itself
+pub point-inside : {i : Interval} {v : Float} → Accepts i v → Contains i (new v v)
+point-inside h = contains (between h .0) (between h .1)
+
+pub inside-accepts : {i : Interval} {v : Float} → Contains i (new v v) → Accepts i v
+inside-accepts c = accepts (inside c .0) (inside c .1)
+
 pub accepts-low-to-high : {i : Interval} {v : Float} → Accepts i v → Le (i .lo) (i .hi)
 accepts-low-to-high h = le-trans (between h .0) (between h .1)
 
@@ -87,12 +94,10 @@ non-empty-solid n = record {
 
 -- ---- merging loses nothing
 pub merge-accepts-left : {i : Interval} {v : Float} (j : Interval) → Accepts i v → Accepts (mergeInterval i j) v
-unfolding mergeInterval
-merge-accepts-left j h = accepts (min-le-left (j .lo) (between h .0)) (max-ge-left (j .hi) (between h .1))
+merge-accepts-left j h = inside-accepts (merge-contains-left j (point-inside h))
 
 pub merge-accepts-right : (i : Interval) {j : Interval} {v : Float} → Accepts j v → Accepts (mergeInterval i j) v
-unfolding mergeInterval
-merge-accepts-right i h = accepts (min-le-right (i .lo) (between h .0)) (max-ge-right (i .hi) (between h .1))
+merge-accepts-right i h = inside-accepts (merge-contains-right i (point-inside h))
 
 pub merge-value-keeps : {i : Interval} {v : Float} (w : Float) → Accepts i v → Accepts (mergeValue i w) v
 unfolding mergeValue

@@ -121,12 +121,10 @@ within-plain {x} {k} S w h =
 
 -- a number is accepted where it lies there by itself
 within-of-accepts : {x : WraparoundInterval} {v : Float} → Accepts x v → Within x (interval.new v v)
-within-of-accepts h =
-    record { piece = ⊎-elim (λ a. inl (contains (plain.between a .0) (plain.between a .1))) (λ b. inr (contains (plain.between b .0) (plain.between b .1))) (accepts-cases h) }
+within-of-accepts h = record { piece = ⊎-elim (λ a. inl (plain.point-inside a)) (λ b. inr (plain.point-inside b)) (accepts-cases h) }
 
 accepts-of-within : {x : WraparoundInterval} {v : Float} → Within x (interval.new v v) → Accepts x v
-accepts-of-within h =
-    ⊎-elim (λ a. accepts-left (plain.accepts (inside a .0) (inside a .1))) (λ b. accepts-right (plain.accepts (inside b .0) (inside b .1))) (h .piece)
+accepts-of-within h = ⊎-elim (λ a. accepts-left (plain.inside-accepts a)) (λ b. accepts-right (plain.inside-accepts b)) (h .piece)
 
 -- ---- joining two pieces that reach around those of a wrapped x
 record Around (x : WraparoundInterval) (l r : Interval) : Type 0 where
