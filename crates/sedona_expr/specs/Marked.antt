@@ -67,7 +67,7 @@ marked =
     ∷ merge (x (minus 100) (minus 170)) (x (minus 180) (plus 0)) wraparound.full
     -- P3 (170, −170) with (−160, −150)
     ∷ merge (x (plus 170) (minus 170)) (x (minus 160) (minus 150)) (x (plus 170) (minus 150))
-    -- P4 (170, −170) contains (−178, −175), and since request 5 (175, 178)
+    -- P4 (170, −170) contains (−178, −175), and by request 5 (175, 178)
     ∷ contain (x (plus 170) (minus 170)) (x (minus 178) (minus 175)) true
     ∷ contain (x (plus 170) (minus 170)) (x (plus 175) (plus 178)) true
     -- P5 (20, 10) intersected with (10, 0), though both accept 10
