@@ -52,12 +52,11 @@ impl Part {
         }
     }
 
-    /// A word: of a double its bits, where every NaN counts as one and so do the two zeros.
+    /// A word: of a double its bits, where every NaN counts as one.
     fn word(&self) -> u64 {
         match self {
             Part::Bool(value) | Part::Match(value) | Part::Hit(value) => u64::from(*value),
             Part::Double(value) if value.is_nan() => 0x7ff8_0000_0000_0000,
-            Part::Double(0.0) => 0,
             Part::Double(value) => value.to_bits(),
             Part::Integer(value) => *value,
             Part::Total(value) => value.cast_unsigned(),
@@ -78,11 +77,13 @@ impl Answer {
     }
 
     /// The number 0 and a record; where there is none, since a total leaves its range, the number
-    /// for that and what then stands for it.
-    pub fn numbered(record: Option<GeoStatistics>, otherwise: GeoStatistics) -> Answer {
-        let number = if record.is_some() { 0 } else { LEAVES_RANGE };
-        let record = record.unwrap_or(otherwise);
-        Answer::joined([Answer(vec![Part::Integer(number)]), record.into()])
+    /// for that and what then stands for it, as it is.
+    pub fn numbered(given: Option<GeoStatistics>, otherwise: GeoStatistics) -> Answer {
+        let (number, record) = match given {
+            Some(given) => (0, record(&given, plus_zero)),
+            None => (LEAVES_RANGE, record(&otherwise, |end| end)),
+        };
+        Answer::joined([Answer(vec![Part::Integer(number)]), record])
     }
 
     /// Whether a filter may match, or the number that refuses it.
@@ -115,7 +116,7 @@ impl Answer {
         let mut array = result.unwrap_or_default();
         let counts = [number, array.len() as u64].map(Part::Integer);
         array.resize(MOST_NUMBERS, 0.0);
-        let numbers = array.into_iter().map(Part::Double);
+        let numbers = array.into_iter().map(plus_zero).map(Part::Double);
         Answer(counts.into_iter().chain(numbers).collect())
     }
 
@@ -147,21 +148,27 @@ impl From<f64> for Answer {
 
 impl From<Interval> for Answer {
     fn from(value: Interval) -> Self {
-        ends(&value)
+        ends(&value, plus_zero)
     }
 }
 
 impl From<WraparoundInterval> for Answer {
     fn from(value: WraparoundInterval) -> Self {
-        ends(&value)
+        ends(&value, plus_zero)
     }
 }
 
-fn ends(interval: &impl IntervalTrait) -> Answer {
-    Answer(vec![
-        Part::Double(interval.lo()),
-        Part::Double(interval.hi()),
-    ])
+/// +0 for -0. The Rust leaves the sign of a zero in an interval open; request 6 asks for this one.
+pub fn plus_zero(value: f64) -> f64 {
+    if value == 0.0 { 0.0 } else { value }
+}
+
+/// What is done to each end of an interval.
+type EachEnd = fn(f64) -> f64;
+
+fn ends(interval: &impl IntervalTrait, each: EachEnd) -> Answer {
+    let ends = [interval.lo(), interval.hi()];
+    Answer(ends.map(|end| Part::Double(each(end))).into())
 }
 
 impl From<(Interval, Interval)> for Answer {
@@ -172,13 +179,14 @@ impl From<(Interval, Interval)> for Answer {
 
 impl From<BoundingBox> for Answer {
     fn from(value: BoundingBox) -> Self {
-        let (x, y) = (ends(value.x()), ends(value.y()));
-        Answer::joined([x, y, dimension(value.z()), dimension(value.m())])
+        bounds(&value, plus_zero)
     }
 }
 
-fn dimension(dimension: &Option<Interval>) -> Answer {
-    known(*dimension, 2)
+fn bounds(value: &BoundingBox, each: EachEnd) -> Answer {
+    let dimension = |part: &Option<Interval>| known(part.map(|part| ends(&part, each)), 2);
+    let (x, y) = (ends(value.x(), each), ends(value.y(), each));
+    Answer::joined([x, y, dimension(value.z()), dimension(value.m())])
 }
 
 /// A part that can be missing, which is so many words then.
@@ -213,15 +221,15 @@ impl From<i64> for Answer {
     }
 }
 
-impl From<GeoStatistics> for Answer {
-    fn from(value: GeoStatistics) -> Self {
-        let bounds = known(value.bbox().cloned(), Kind::Box.width());
-        let types = known(value.geometry_types().cloned(), 1);
-        let totals = TOTALS.map(|total| known(total(&value), 1));
-        let extents = EXTENTS.map(|extent| known(extent(&value), 1));
-        let parts = [bounds, types].into_iter().chain(totals).chain(extents);
-        Answer::joined(parts)
-    }
+/// A record. Its extents are no intervals: they are as they were added.
+fn record(value: &GeoStatistics, each: EachEnd) -> Answer {
+    let bounds = value.bbox().map(|value| bounds(value, each));
+    let bounds = known(bounds, Kind::Box.width());
+    let types = known(value.geometry_types().cloned(), 1);
+    let totals = TOTALS.map(|total| known(total(value), 1));
+    let extents = EXTENTS.map(|extent| known(extent(value), 1));
+    let parts = [bounds, types].into_iter().chain(totals).chain(extents);
+    Answer::joined(parts)
 }
 
 impl From<Search> for Answer {

@@ -1,7 +1,7 @@
 //! The table of calls: the names of the case language, and the lent Rust that answers them. Whether an
 //! x contains another it is not always asked (containing.rs).
 
-use crate::answer::{Answer, Digest};
+use crate::answer::{Answer, Digest, plus_zero};
 use crate::bounding_box::BoundingBox;
 use crate::containing::{box_contains, x_contains};
 use crate::interval::{Interval, IntervalTrait, WraparoundInterval};
@@ -153,8 +153,8 @@ fn calls_of_wraparound_interval() -> Vec<Call> {
 fn calls_of_float() -> Vec<Call> {
     let of = "float";
     vec![
-        Call::new(of, "min", |[a, b]: [f64; 2]| f64::min(a, b)),
-        Call::new(of, "max", |[a, b]: [f64; 2]| f64::max(a, b)),
+        Call::new(of, "min", |[a, b]: [f64; 2]| plus_zero(f64::min(a, b))),
+        Call::new(of, "max", |[a, b]: [f64; 2]| plus_zero(f64::max(a, b))),
         Call::new(of, "abs", |[a]: [f64; 1]| f64::abs(a)),
         Call::new(of, "infinity", |[]: [f64; 0]| f64::INFINITY),
     ]

@@ -81,12 +81,14 @@ fn read_digits(digits: &str) -> Option<u64> {
     digits.parse().ok().filter(|_| is_number)
 }
 
-/// The word for a double in an answer: a NaN without its bits, a zero without its sign, and by its
-/// bits what is no fraction of a few digits.
+/// The word for a double in an answer: a NaN without its bits, and by its bits what is no fraction of a
+/// few digits.
 pub fn write(value: f64) -> String {
     let scaled = value * 1024.0;
     if value.is_nan() {
         "nan".to_string()
+    } else if value == 0.0 && value.is_sign_negative() {
+        "-0".to_string()
     } else if value.is_infinite() {
         value.to_string()
     } else if scaled.fract() == 0.0 && scaled.abs() <= LARGEST as f64 {
@@ -112,9 +114,9 @@ fn write_bits(value: f64) -> String {
 /// The word for a double as an operand, which reads back to the same bits.
 pub fn write_operand(value: f64) -> String {
     let same = |word: &String| read(word).map(f64::to_bits) == Some(value.to_bits());
-    let words = [write(value), "-0".to_string()];
-    let found = words.into_iter().find(same);
-    found.unwrap_or_else(|| write_bits(value))
+    Some(write(value))
+        .filter(same)
+        .unwrap_or_else(|| write_bits(value))
 }
 
 /// A line of a case file: a name and other words.

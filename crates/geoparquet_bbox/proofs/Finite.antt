@@ -4,6 +4,7 @@ use mathlib.Core.Bool.{true, false}
 use lib.Ieee.{Float, nan, inf, fin, lt}
 use Rattle.sedona_geometry.specs.Float.{abs}
 use Rattle.sedona_geometry.proofs.Order.{Number, finite, holds}
+use Rattle.sedona_geometry.proofs.PlusZero.{Alike, same, zeros}
 use Rattle.geoparquet_bbox.specs.Layout.{isFinite}
 
 -- a number is finite where its absolute value is below infinity
@@ -18,3 +19,9 @@ unfolding isFinite
 finite-number nan e = absurd (holds e)
 finite-number (inf s) e = absurd (holds e)
 finite-number (fin s m e) h = finite
+
+-- a zero's sign does not matter to it
+pub finite-alike : {v w : Float} → Alike v w → isFinite v ≡ isFinite w
+unfolding isFinite
+finite-alike same = refl
+finite-alike zeros = refl

@@ -1,18 +1,23 @@
--- The hypotheses of the laws can be met: by a box with z that crosses the antimeridian, and by an array of four numbers. Assumes nothing.
+-- The hypotheses of the laws can be met: by a box with z that crosses the antimeridian, by an array of four numbers, and by a box and an array
+-- with −0. Assumes nothing.
 use mathlib.Core.Path.{_≡_, refl}
+use mathlib.Core.Bool.{true}
 use mathlib.Core.List.{List, [], _∷_}
-use mathlib.Core.Logic.{inl}
+use mathlib.Core.Logic.{inl, inr}
 use Prim.Native.Nat.{ℕ}
 use lib.IntN.{pos, negℤ}
-use lib.Ieee.{Float, binary64, ofInt, round, lt, eq, le}
+use lib.Ieee.{Float, fin, binary64, ofInt, round, lt, eq, le}
+use Rattle.sedona_geometry.specs.Float as float
 use Rattle.sedona_geometry.specs.Interval as interval
 use Rattle.sedona_geometry.specs.WraparoundInterval as wraparound
-use Rattle.sedona_geometry.specs.BoundingBox.{xyzm, accepted}
+use Rattle.sedona_geometry.specs.BoundingBox as boundingBox
+use Rattle.sedona_geometry.specs.BoundingBox.{Canonical, xyzm}
 use Rattle.sedona_geometry.specs.declared.bounding_box.Dimension.the-variants.{Missing, Known}
 use Rattle.sedona_geometry.specs.declared.bounding_box.BoundingBox.{BoundingBox}
-use Rattle.geoparquet_bbox.specs.Layout.{isFinite, boxOf, array, toGeoparquet, fromGeoparquet, Publishable, PublishableArray}
+use Rattle.sedona_geometry.proofs.Canonical.{xyzm-canonical}
+use Rattle.geoparquet_bbox.specs.Layout.{lowsThenHighs, isFinite, areFinite, isRising, risesWhereKnown, numbersRefusal, boxRefusal, arrayRefusal, boxOf, given, array, toGeoparquet, fromGeoparquet, Publishable, PublishableArray, NoMinusZero, EqualNumbers}
 use Rattle.geoparquet_bbox.proofs.Passing.{box-passes, array-passes}
-use Rattle.geoparquet_bbox.proofs.ThereAndBack.{box-there-and-back, array-there-and-back}
+use Rattle.geoparquet_bbox.proofs.ThereAndBack.{box-same-bits, array-same-bits, box-same-numbers, array-same-numbers}
 
 abbrev plus : ℕ → Float
 plus n = ofInt binary64 (pos n)
@@ -33,8 +38,11 @@ strip-publishable = record {
   m = refl;
 }
 
-pub strip-there-and-back : fromGeoparquet (array (toGeoparquet strip)) ≡ accepted strip
-strip-there-and-back = box-there-and-back strip (box-passes strip .1 strip-publishable)
+strip-canonical : Canonical strip
+strip-canonical = xyzm-canonical (wraparound.new (plus 170) (minus 170)) (interval.new (minus 10) (plus 10)) (Known (interval.new (minus 3) (minus 3))) Missing
+
+pub strip-there-and-back : fromGeoparquet (array (toGeoparquet strip)) .bounds ≡ strip
+strip-there-and-back = box-same-bits strip (box-passes strip .1 strip-publishable) strip-canonical
 
 -- ---- an array
 abbrev four : List Float
@@ -52,5 +60,56 @@ four-publishable = record {
   };
 }
 
+four-canonical : NoMinusZero four
+unfolding round ofInt
+four-canonical = (refl, (refl, (refl, (refl, tt))))
+
 pub four-there-and-back : array (toGeoparquet (fromGeoparquet four .bounds)) ≡ four
-four-there-and-back = array-there-and-back four (array-passes four .1 four-publishable) .1
+four-there-and-back = array-same-bits four (array-passes four .1 four-publishable) four-canonical
+
+-- ---- −0 at both ends of x, and at one of y and z: in a box whose fields were filled, and in an array
+abbrev minusZero : Float
+minusZero = fin true 0 (pos 0)
+
+abbrev filled : BoundingBox
+filled = record { x = record { inner = record { lo = minusZero; hi = minusZero } }; y = record { lo = minusZero; hi = plus 10 }; z = Known (record { lo = minus 3; hi = minusZero }); m = Missing }
+
+filled-publishable : Publishable filled
+unfolding isFinite le lt eq round ofInt
+filled-publishable = record {
+  x = record { lo = refl; hi = refl };
+  y = record { ends = record { lo = refl; hi = refl }; lowToHigh = refl };
+  z = record { ends = record { lo = refl; hi = refl }; lowToHigh = refl };
+  m = refl;
+}
+
+pub filled-same-numbers : boundingBox.EqualNumbers (fromGeoparquet (array (toGeoparquet filled)) .bounds) filled
+filled-same-numbers = box-same-numbers filled (box-passes filled .1 filled-publishable)
+
+abbrev signed : List Float
+signed = minusZero ∷ minusZero ∷ minus 3 ∷ minusZero ∷ plus 10 ∷ minusZero ∷ []
+
+-- the array has +0
+pub filled-array : toGeoparquet filled ≡ given (float.zero ∷ float.zero ∷ minus 3 ∷ float.zero ∷ plus 10 ∷ float.zero ∷ [])
+unfolding toGeoparquet boxRefusal numbersRefusal risesWhereKnown isRising areFinite isFinite lowsThenHighs lt round ofInt
+filled-array = refl
+
+signed-publishable : PublishableArray signed
+unfolding boxOf isFinite le lt eq round ofInt
+signed-publishable = record {
+  fourOrSix = inr refl;
+  bounds = record {
+    x = record { lo = refl; hi = refl };
+    y = record { ends = record { lo = refl; hi = refl }; lowToHigh = refl };
+    z = record { ends = record { lo = refl; hi = refl }; lowToHigh = refl };
+    m = refl;
+  };
+}
+
+pub signed-same-numbers : EqualNumbers (array (toGeoparquet (fromGeoparquet signed .bounds))) signed
+signed-same-numbers = array-same-numbers signed (array-passes signed .1 signed-publishable)
+
+-- and so has the box
+pub signed-box : fromGeoparquet signed ≡ fromGeoparquet (float.zero ∷ float.zero ∷ minus 3 ∷ float.zero ∷ plus 10 ∷ float.zero ∷ [])
+unfolding fromGeoparquet arrayRefusal boxOf round ofInt
+signed-box = refl

@@ -1,3 +1,4 @@
+pub mod Canonical
 pub mod Finite
 pub mod Instances
 pub mod Passing

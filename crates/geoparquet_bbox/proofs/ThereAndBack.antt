@@ -1,19 +1,30 @@
--- There and back: a box that is not refused, turned into an array and back, is the same box; an array that is not refused, turned into a box and
--- back, is the same array. `box-passes` and `array-passes` of Passing say what is not refused. Assumes nothing.
-use mathlib.Core.Path.{_≡_, refl, sym, ap, subst, _∙_}
-use mathlib.Core.List.{List, [], _∷_}
-use mathlib.Core.Logic.{_⊎_, inl, inr}
+-- There and back: a box that is not refused, turned into an array and back, has the same numbers, and is the same box where it has no −0; and so is
+-- an array that is not refused, turned into a box and back. `box-passes` and `array-passes` of Passing say what is not refused. Assumes nothing.
+use mathlib.Core.Path.{_≡_, refl, sym, ap, ap₂, subst, _∙_}
+use mathlib.Core.Bool.{true}
+use mathlib.Core.List.{List, [], _∷_, map}
+use mathlib.Core.Logic.{_⊎_, inl, inr, ⊎-elim}
 use Prim.Native.Nat.{ℕ, zero, suc, _+_}
 use native.Mathlib.Omega.{arith}
 use lib.ListN.{length, getD, drop}
 use lib.Seq.{drop-cons, drop-length}
 use lib.Ieee.{Float, nan}
 use borrow.Author.Tests.{eq-eqb}
-use Rattle.sedona_geometry.specs.BoundingBox.{xyzm, accepted, numbered}
+use Rattle.sedona_geometry.specs.Float as float
+use Rattle.sedona_geometry.specs.Interval as interval
+use Rattle.sedona_geometry.specs.BoundingBox as boundingBox
+use Rattle.sedona_geometry.specs.BoundingBox.{Canonical, EqualWhereKnown, plusZeroWhereKnown, xyzm, plusZero, accepted, numbered}
+use Rattle.sedona_geometry.specs.declared.interval.Interval.{Interval}
 use Rattle.sedona_geometry.specs.declared.bounding_box.Dimension.{Dimension}
 use Rattle.sedona_geometry.specs.declared.bounding_box.Dimension.the-variants.{Missing, Known}
 use Rattle.sedona_geometry.specs.declared.bounding_box.BoundingBox.{BoundingBox}
-use Rattle.geoparquet_bbox.specs.Layout.{lowsThenHighs, arrayOf, boxOf, given, array, boxRefusal, arrayRefusal, toGeoparquet, fromGeoparquet, Publishable}
+use Rattle.sedona_geometry.proofs.Keys.{plus-equal, plus-equal-interval}
+use Rattle.sedona_geometry.proofs.Order.{Number}
+use Rattle.sedona_geometry.proofs.PlusZero.{stays, twice, alike-plus, le-alike}
+use Rattle.sedona_geometry.proofs.Canonical.{stays-box, accepted-canonical, accepted-is}
+use Rattle.geoparquet_bbox.specs.Layout.{isFinite, lowsThenHighs, arrayOf, boxOf, given, array, boxRefusal, arrayRefusal, toGeoparquet, fromGeoparquet, Finite, Rising, RisingWhereKnown, Publishable, NoMinusZero, EqualNumbers}
+use Rattle.geoparquet_bbox.proofs.Canonical.{box-of-canonical}
+use Rattle.geoparquet_bbox.proofs.Finite.{finite-number, finite-alike}
 use Rattle.geoparquet_bbox.proofs.Passing.{to-number, from-number, box-passes, array-passes}
 
 -- ---- a list by its places
@@ -26,27 +37,27 @@ places-rest vs k zero e = let h : k ≡ length vs = omega arith in rw (h, drop-l
 places-rest vs k (suc n) e = let h = places-rest vs (suc k) n (omega arith) in rw (h, drop-cons vs k nan (omega arith))
 
 -- ---- one layout laid over the other
-box-of-array : (b : BoundingBox) → b .m ≡ Missing → boxOf (arrayOf b) ≡ b
+box-of-array : (b : BoundingBox) → b .m ≡ Missing → boxOf (arrayOf b) ≡ plusZero b
 unfolding boxOf lowsThenHighs
 box-of-array b e = go (b .z) ∙ ap (λ m. xyzm (b .x) (b .y) (b .z) m) (sym e)
   where
-    go : (z : Dimension) → boxOf (lowsThenHighs (b .x .inner) (b .y) z) ≡ xyzm (b .x) (b .y) z Missing
-    go Missing = refl
-    go (Known i) = refl
+    go : (z : Dimension) → boxOf (arrayOf (record { x = b .x; y = b .y; z = z; m = b .m })) ≡ xyzm (b .x) (b .y) z Missing
+    go Missing = simp twice
+    go (Known i) = simp twice
 
-array-of-box : (vs : List Float) → (length vs ≡ 4) ⊎ (length vs ≡ 6) → arrayOf (boxOf vs) ≡ vs
+array-of-box : (vs : List Float) → (length vs ≡ 4) ⊎ (length vs ≡ 6) → arrayOf (boxOf vs) ≡ map float.plusZero vs
 unfolding boxOf lowsThenHighs
-array-of-box vs (inl e) = rw e (places-rest vs 0 4 e)
-array-of-box vs (inr e) = rw e (places-rest vs 0 6 e)
+array-of-box vs (inl e) = rw e (simp twice (ap (map float.plusZero) (places-rest vs 0 4 e)))
+array-of-box vs (inr e) = rw e (simp twice (ap (map float.plusZero) (places-rest vs 0 6 e)))
 
 -- an array has four numbers or six, and all of them are given
 array-given : (b : BoundingBox) → ((length (arrayOf b) ≡ 4) ⊎ (length (arrayOf b) ≡ 6)) × (array (given (arrayOf b)) ≡ arrayOf b)
 unfolding lowsThenHighs
-array-given b = go (b .z)
+array-given b = go (plusZero b .x .inner) (plusZero b .y) (plusZero b .z)
   where
-    go : (z : Dimension) → ((length (lowsThenHighs (b .x .inner) (b .y) z) ≡ 4) ⊎ (length (lowsThenHighs (b .x .inner) (b .y) z) ≡ 6)) × (array (given (lowsThenHighs (b .x .inner) (b .y) z)) ≡ lowsThenHighs (b .x .inner) (b .y) z)
-    go Missing = (inl refl, refl)
-    go (Known i) = (inr refl, refl)
+    go : (x y : Interval) (z : Dimension) → ((length (lowsThenHighs x y z) ≡ 4) ⊎ (length (lowsThenHighs x y z) ≡ 6)) × (array (given (lowsThenHighs x y z)) ≡ lowsThenHighs x y z)
+    go x y Missing = (inl refl, refl)
+    go x y (Known i) = (inr refl, refl)
 
 -- ---- what is given where nothing is refused
 to-given : (b : BoundingBox) → toGeoparquet b .number ≡ 0 → toGeoparquet b ≡ given (arrayOf b)
@@ -57,20 +68,99 @@ from-given : (vs : List Float) → fromGeoparquet vs .number ≡ 0 → fromGeopa
 unfolding fromGeoparquet numbered
 from-given vs e = rw (eq-eqb (arrayRefusal vs) 0 (sym (from-number vs) ∙ e))
 
+-- ---- a box handed on is publishable too
+plus-finite : {i : Interval} → Finite i → Finite (interval.plusZero i)
+plus-finite {i} f = record { lo = finite-alike (alike-plus (i .lo)) ∙ f .lo; hi = finite-alike (alike-plus (i .hi)) ∙ f .hi }
+
+plus-rising : {i : Interval} → Rising i → Rising (interval.plusZero i)
+plus-rising {i} r = record { ends = plus-finite (r .ends); lowToHigh = le-alike (alike-plus (i .lo)) (alike-plus (i .hi)) ∙ r .lowToHigh }
+
+plus-rising-where-known : (d : Dimension) → RisingWhereKnown d → RisingWhereKnown (plusZeroWhereKnown d)
+plus-rising-where-known Missing r = tt
+plus-rising-where-known (Known i) r = plus-rising r
+
+plus-publishable : {b : BoundingBox} → Publishable b → Publishable (plusZero b)
+plus-publishable {b} p = record { x = plus-finite (p .x); y = plus-rising (p .y); z = plus-rising-where-known (b .z) (p .z); m = ap plusZeroWhereKnown (p .m) }
+
 -- ---- there and back
--- A box that is not refused, turned into an array and back, is the same box.
+-- A box that is not refused, turned into an array and back, is handed on.
 pub box-there-and-back : (b : BoundingBox) → toGeoparquet b .number ≡ 0 → fromGeoparquet (array (toGeoparquet b)) ≡ accepted b
 box-there-and-back b e =
     let p = box-passes b .0 e in
     let same = box-of-array b (p .m) in
-    let passes = array-passes (arrayOf b) .1 (record { fourOrSix = array-given b .0; bounds = subst Publishable (sym same) p }) in
-    rw (to-given b e, array-given b .1) (from-given (arrayOf b) passes ∙ ap accepted same)
+    let passes = array-passes (arrayOf b) .1 (record { fourOrSix = array-given b .0; bounds = subst Publishable (sym same) (plus-publishable p) }) in
+    rw (to-given b e, array-given b .1)
+    (from-given (arrayOf b) passes ∙ ap accepted same ∙ accepted-is (accepted-canonical b))
 
--- An array that is not refused, turned into a box and back, is given: the same list.
+-- An array that is not refused, turned into a box and back, is given with +0 for zero.
 pub array-there-and-back : (vs : List Float) → fromGeoparquet vs .number ≡ 0
-    → (toGeoparquet (fromGeoparquet vs .bounds) ≡ given vs) × (array (toGeoparquet (fromGeoparquet vs .bounds)) ≡ vs)
+    → (toGeoparquet (fromGeoparquet vs .bounds) ≡ given (map float.plusZero vs)) × (array (toGeoparquet (fromGeoparquet vs .bounds)) ≡ map float.plusZero vs)
 array-there-and-back vs e =
     let p = array-passes vs .0 e in
     let there = to-given (boxOf vs) (box-passes (boxOf vs) .1 (p .bounds)) in
     let same = array-of-box vs (p .fourOrSix) in
-    rw (from-given vs e) (there ∙ ap given same, ap array there ∙ array-given (boxOf vs) .1 ∙ same)
+    rw (from-given vs e, stays-box (box-of-canonical vs)) (there ∙ ap given same, ap array there ∙ array-given (boxOf vs) .1 ∙ same)
+
+-- ---- "the same numbers"
+finite-ends : {i : Interval} → Finite i → interval.EqualNumbers (interval.plusZero i) i
+finite-ends {i} f = plus-equal-interval (finite-number (i .lo) (f .lo)) (finite-number (i .hi) (f .hi))
+
+rising-where-known : (d : Dimension) → RisingWhereKnown d → EqualWhereKnown (plusZeroWhereKnown d) d
+rising-where-known Missing r = tt
+rising-where-known (Known i) r = finite-ends (r .ends)
+
+missing-where-known : {d : Dimension} → d ≡ Missing → EqualWhereKnown (plusZeroWhereKnown d) d
+missing-where-known e = rw e tt
+
+pub box-same-numbers : (b : BoundingBox) → toGeoparquet b .number ≡ 0 → boundingBox.EqualNumbers (fromGeoparquet (array (toGeoparquet b)) .bounds) b
+box-same-numbers b e =
+    let p = box-passes b .0 e in
+    rw (box-there-and-back b e) (record {
+      x = finite-ends (p .x);
+      y = finite-ends (p .y .ends);
+      z = rising-where-known (b .z) (p .z);
+      m = missing-where-known {d = b .m} (p .m);
+    })
+
+-- a number of the box is finite where the array's is
+of-plus : (v : Float) → isFinite (float.plusZero v) ≡ true → Number v
+of-plus v h = finite-number v (sym (finite-alike (alike-plus v)) ∙ h)
+
+equal-numbers : (vs : List Float) → (length vs ≡ 4) ⊎ (length vs ≡ 6) → Publishable (boxOf vs) → EqualNumbers (map float.plusZero vs) vs
+unfolding boxOf
+equal-numbers (a ∷ b ∷ c ∷ d ∷ []) l p =
+    let x = simp twice at (p .x) in
+    let y = simp twice at (p .y .ends) in (
+      plus-equal (of-plus a (x .lo)),
+      (plus-equal (of-plus b (y .lo)), (plus-equal (of-plus c (x .hi)), (plus-equal (of-plus d (y .hi)), tt))),
+    )
+equal-numbers (a ∷ b ∷ c ∷ d ∷ e ∷ f ∷ []) l p =
+    let x = simp twice at (p .x) in
+    let y = simp twice at (p .y .ends) in
+    let z = simp twice at (p .z .ends) in (
+      plus-equal (of-plus a (x .lo)),
+      (
+        plus-equal (of-plus b (y .lo)),
+        (plus-equal (of-plus c (z .lo)), (plus-equal (of-plus d (x .hi)), (plus-equal (of-plus e (y .hi)), (plus-equal (of-plus f (z .hi)), tt)))),
+      ),
+    )
+equal-numbers [] l p = absurd (⊎-elim (λ h. omega arith) (λ h. omega arith) l)
+equal-numbers (a ∷ []) l p = absurd (⊎-elim (λ h. omega arith) (λ h. omega arith) l)
+equal-numbers (a ∷ b ∷ []) l p = absurd (⊎-elim (λ h. omega arith) (λ h. omega arith) l)
+equal-numbers (a ∷ b ∷ c ∷ []) l p = absurd (⊎-elim (λ h. omega arith) (λ h. omega arith) l)
+equal-numbers (a ∷ b ∷ c ∷ d ∷ e ∷ []) l p = absurd (⊎-elim (λ h. omega arith) (λ h. omega arith) l)
+equal-numbers (a ∷ b ∷ c ∷ d ∷ e ∷ f ∷ g ∷ vs) l p = absurd (⊎-elim (λ h. omega arith) (λ h. omega arith) l)
+
+pub array-same-numbers : (vs : List Float) → fromGeoparquet vs .number ≡ 0 → EqualNumbers (array (toGeoparquet (fromGeoparquet vs .bounds))) vs
+array-same-numbers vs e = let p = array-passes vs .0 e in rw (array-there-and-back vs e .1) (equal-numbers vs (p .fourOrSix) (p .bounds))
+
+-- ---- "the same bits where the input has no −0"
+pub box-same-bits : (b : BoundingBox) → toGeoparquet b .number ≡ 0 → Canonical b → fromGeoparquet (array (toGeoparquet b)) .bounds ≡ b
+box-same-bits b e c = rw (box-there-and-back b e) (stays-box c)
+
+stay : (vs : List Float) → NoMinusZero vs → map float.plusZero vs ≡ vs
+stay [] c = refl
+stay (v ∷ vs) c = ap₂ (λ (w : Float) (ws : List Float). w ∷ ws) (stays v (c .0)) (stay vs (c .1))
+
+pub array-same-bits : (vs : List Float) → fromGeoparquet vs .number ≡ 0 → NoMinusZero vs → array (toGeoparquet (fromGeoparquet vs .bounds)) ≡ vs
+array-same-bits vs e c = array-there-and-back vs e .1 ∙ stay vs c

@@ -6,7 +6,7 @@ use mathlib.Core.Logic.{_⊎_}
 use Prim.Native.Nat.{ℕ, _+_}
 use lib.Dec.{eqb}
 use lib.ListN.{length, getD, take, replicate}
-use lib.Ieee.{Float, nan, inf, fin, lt, le}
+use lib.Ieee.{Float, nan, inf, fin, lt, le, eq}
 use Rattle.sedona_geometry.specs.Float as float
 use Rattle.sedona_geometry.specs.Interval as interval
 use Rattle.sedona_geometry.specs.WraparoundInterval as wraparound
@@ -26,8 +26,9 @@ unfoldable pub lowsThenHighs : Interval → Interval → Dimension → List Floa
 lowsThenHighs x y Missing = x .lo ∷ y .lo ∷ x .hi ∷ y .hi ∷ []
 lowsThenHighs x y (Known z) = x .lo ∷ y .lo ∷ z .lo ∷ x .hi ∷ y .hi ∷ z .hi ∷ []
 
+-- Of a box handed on: request 6 asks +0 of an array too.
 abbrev pub arrayOf : BoundingBox → List Float
-arrayOf b = lowsThenHighs (b .x .inner) (b .y) (b .z)
+arrayOf b = let c = boundingBox.plusZero b in lowsThenHighs (c .x .inner) (c .y) (c .z)
 
 -- Dimension k of an array of n dimensions: its low is number k, its high number n + k.
 abbrev pub intervalAt : List Float → ℕ → ℕ → Interval
@@ -106,6 +107,18 @@ unfoldable pub fromGeoparquet : List Float → NumberedBox
 fromGeoparquet vs = boundingBox.numbered (arrayRefusal vs) (boxOf vs)
 
 -- ---- what the laws speak of
+
+-- Request 6: no number is −0.
+abbrev pub NoMinusZero : List Float → Type 0
+NoMinusZero [] = Unit {0}
+NoMinusZero (v ∷ vs) = (float.isMinusZero v ≡ false) × NoMinusZero vs
+
+-- As many numbers, each equal to its like as a number.
+abbrev pub EqualNumbers : List Float → List Float → Type 0
+EqualNumbers [] [] = Unit {0}
+EqualNumbers [] (w ∷ ws) = ⊥
+EqualNumbers (v ∷ vs) [] = ⊥
+EqualNumbers (v ∷ vs) (w ∷ ws) = (eq v w ≡ true) × EqualNumbers vs ws
 
 -- Both ends are finite.
 pub record Finite (i : Interval) : Type 0 where

@@ -121,7 +121,7 @@ fn laid_out(x: Interval, y: Interval, z: Dimension) -> NumberedArray
     }
 }
 
-// The array of a box. Refused with 13 where m is known; then with 14 where a known number is NaN or
+// The array of a box, with +0 for zero. Refused with 13 where m is known; then with 14 where a known number is NaN or
 // infinite, or y or z has its low above its high. x may have: it crosses the antimeridian then.
 pub fn to_geoparquet(bounds: BoundingBox) -> NumberedArray
     ensures { λ r. ⌜ r ≡ layout.toGeoparquet bounds ⌝ }
@@ -130,9 +130,12 @@ pub fn to_geoparquet(bounds: BoundingBox) -> NumberedArray
     if number != 0 {
         return NumberedArray::refused(number);
     }
-    let x = bounds.x;
     let z = bounds.z;
-    laid_out(x.inner, bounds.y, z)
+    let m = bounds.m;
+    let plus = BoundingBox::xyzm(bounds.x, bounds.y, z, m);
+    let x = plus.x;
+    let plus_z = plus.z;
+    laid_out(x.inner, plus.y, plus_z)
 }
 
 // Dimension k of an array of so many dimensions.

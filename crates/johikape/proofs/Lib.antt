@@ -1,2 +1,3 @@
+pub mod Canonical
 pub mod Lists
 pub mod ThereAndBack

@@ -1,4 +1,5 @@
--- What crosses comes back: a box, and a record, that is put into C's lists and read again is the same. Assumes nothing.
+-- What crosses comes back: a box, and a record, that is put into C's lists and read again is the same, with +0 for zero; and so it is itself where it
+-- has no −0, as every one has that a call gives. Assumes nothing.
 use mathlib.Core.Path.{_≡_, refl, ap, _∙_}
 use mathlib.Core.List.{[], _∷_}
 use Prim.Native.Nat.{ℕ, _+_, _*_, _/_, _%_, _≤_, _<_}
@@ -6,10 +7,14 @@ use native.Mathlib.Omega.{arith}
 use lib.Arith.{digits-div, digits-mod}
 use lib.Dec.{eqb}
 use lib.Ieee.{Float}
-use Rattle.sedona_geometry.specs.BoundingBox.{xyzm}
+use Rattle.sedona_geometry.specs.BoundingBox.{Canonical, plusZero}
 use Rattle.sedona_geometry.specs.declared.bounding_box.Dimension as Dimension
 use Rattle.sedona_geometry.specs.declared.bounding_box.Dimension.{Dimension}
 use Rattle.sedona_geometry.specs.declared.bounding_box.BoundingBox.{BoundingBox}
+use Rattle.sedona_geometry.proofs.Canonical.{stays-box}
+use Rattle.sedona_geometry.proofs.PlusZero.{twice}
+use Rattle.sedona_expr.specs.Statistics as statistics
+use Rattle.sedona_expr.proofs.Canonical.{stays-record}
 use Rattle.sedona_expr.specs.Tables.{boxes, boxWith, boxAt}
 use Rattle.sedona_expr.specs.Refusals.{goodFlag}
 use Rattle.sedona_expr.specs.declared.statistics.Bbox as Bbox
@@ -25,15 +30,21 @@ use Rattle.johikape.specs.Boxes as box
 use Rattle.johikape.specs.Records as rec
 
 -- ---- a box
-pub box-back : (b : BoundingBox) → box.read (box.doubles b) (box.flag b) ≡ Bbox.Known b
+abbrev with : BoundingBox → Dimension → Dimension → BoundingBox
+with b z m = record { x = b .x; y = b .y; z = z; m = m }
+
+pub box-back : (b : BoundingBox) → box.read (box.doubles b) (box.flag b) ≡ Bbox.Known (plusZero b)
 unfolding box.read goodFlag boxAt boxWith
 box-back b = go (b .z) (b .m)
   where
-    go : (z m : Dimension) → box.read (box.doubles (xyzm (b .x) (b .y) z m)) (box.flag (xyzm (b .x) (b .y) z m)) ≡ Bbox.Known (xyzm (b .x) (b .y) z m)
-    go Dimension.Missing Dimension.Missing = refl
-    go Dimension.Missing (Dimension.Known j) = refl
-    go (Dimension.Known i) Dimension.Missing = refl
-    go (Dimension.Known i) (Dimension.Known j) = refl
+    go : (z m : Dimension) → box.read (box.doubles (with b z m)) (box.flag (with b z m)) ≡ Bbox.Known (plusZero (with b z m))
+    go Dimension.Missing Dimension.Missing = simp twice
+    go Dimension.Missing (Dimension.Known j) = simp twice
+    go (Dimension.Known i) Dimension.Missing = simp twice
+    go (Dimension.Known i) (Dimension.Known j) = simp twice
+
+pub box-back-same : (b : BoundingBox) → Canonical b → box.read (box.doubles b) (box.flag b) ≡ Bbox.Known b
+box-back-same b c = box-back b ∙ ap (λ (d : BoundingBox). Bbox.Known d) (stays-box c)
 
 -- ---- a record: its flags are digits, one for each part
 digit : (n part low high k : ℕ) → n ≡ (high * 2 + k) * part + low → low < part → k < 2 → n / part % 2 ≡ k
@@ -90,16 +101,16 @@ extent-back Extent.Missing e = rw e
 extent-back (Extent.Known x) e = rw e
 
 -- the box, of the first eight of any doubles that begin with its own
-bbox-back : (c : Bbox) (v w : Float) → boxAt (boxes (rec.boxDoubles c v w) (rec.bboxFlag c ∷ [])) 0 ≡ c
+bbox-back : (c : Bbox) (v w : Float) → boxAt (boxes (rec.boxDoubles c v w) (rec.bboxFlag c ∷ [])) 0 ≡ statistics.plusZeroWhereKnown c
 unfolding boxAt boxWith
 bbox-back Bbox.Missing v w = refl
 bbox-back (Bbox.Known b) v w = go (b .z) (b .m)
   where
-    go : (z m : Dimension) → boxAt (boxes (rec.boxDoubles (Bbox.Known (xyzm (b .x) (b .y) z m)) v w) (rec.bboxFlag (Bbox.Known (xyzm (b .x) (b .y) z m)) ∷ [])) 0 ≡ Bbox.Known (xyzm (b .x) (b .y) z m)
-    go Dimension.Missing Dimension.Missing = refl
-    go Dimension.Missing (Dimension.Known j) = refl
-    go (Dimension.Known i) Dimension.Missing = refl
-    go (Dimension.Known i) (Dimension.Known j) = refl
+    go : (z m : Dimension) → boxAt (boxes (rec.boxDoubles (Bbox.Known (with b z m)) v w) (rec.bboxFlag (Bbox.Known (with b z m)) ∷ [])) 0 ≡ Bbox.Known (plusZero (with b z m))
+    go Dimension.Missing Dimension.Missing = simp twice
+    go Dimension.Missing (Dimension.Known j) = simp twice
+    go (Dimension.Known i) Dimension.Missing = simp twice
+    go (Dimension.Known i) (Dimension.Known j) = simp twice
 
 -- ---- the whole record
 module _ (s : GeoStatistics) where
@@ -198,10 +209,10 @@ module _ (s : GeoStatistics) where
   bbox-digits : rec.flags s % 8 ≡ b
   bbox-digits = ap (λ (i : ℕ). i % 8) whole ∙ digits-mod (from-0 * 2 + a) (bbox-small (s .bbox))
 
-  bbox-again : boxAt (boxes (rec.doubles s) (rec.flags s % 8 ∷ [])) 0 ≡ s .bbox
+  bbox-again : boxAt (boxes (rec.doubles s) (rec.flags s % 8 ∷ [])) 0 ≡ statistics.plusZeroWhereKnown (s .bbox)
   bbox-again = rw bbox-digits (bbox-back (s .bbox) (rec.extent (s .«total_envelope_width»)) (rec.extent (s .«total_envelope_height»)))
 
-  pub record-back : rec.readParts (rec.written s) ≡ s
+  pub record-back : rec.readParts (rec.written s) ≡ statistics.plusZero s
   unfolding rec.read boxAt boxWith
   record-back = λ i. record {
     bbox = bbox-again i;
@@ -216,3 +227,6 @@ module _ (s : GeoStatistics) where
     «total_envelope_width» = extent-back (s .«total_envelope_width») digit-w i;
     «total_envelope_height» = extent-back (s .«total_envelope_height») digit-h i;
   }
+
+pub record-back-same : (s : GeoStatistics) → statistics.CanonicalWhereKnown (s .bbox) → rec.readParts (rec.written s) ≡ s
+record-back-same s c = record-back s ∙ stays-record c

@@ -6,6 +6,8 @@ use geoparquet_bbox::layout::NumberedArray;
 use geoparquet_bbox::layout::from_geoparquet;
 use geoparquet_bbox::layout::to_geoparquet;
 use replay_geometry::boxes::BOX;
+use replay_geometry::boxes::filled;
+use replay_geometry::boxes::filled_x;
 use replay_geometry::names::Call;
 use replay_text::output::Buffer;
 use replay_text::output::put;
@@ -14,7 +16,8 @@ use replay_text::words::MOST_WORDS;
 use replay_text::words::Words;
 use replay_text::write::put_doubles;
 use sedona_expr::statistics::Bbox;
-use sedona_expr::tables::box_at;
+use sedona_geometry::bounding_box::BoundingBox;
+use sedona_geometry::bounding_box::Dimension;
 
 // Puts what a call answers to the words of a line.
 pub fn put_call_of_layouts(out: &mut Buffer, filled: usize, call: Call, words: Words) -> usize {
@@ -32,12 +35,26 @@ pub fn put_call_of_layouts(out: &mut Buffer, filled: usize, call: Call, words: W
     put_array(out, filled, to_geoparquet(bounds))
 }
 
-// The box of eight ends and a flag of 1, 3, 5 or 7; else none.
+// The box of eight ends and a flag of 1, 3, 5 or 7, its fields filled with these ends; else none.
 fn flagged_box(ends: [f64; MOST_WORDS], flag: u32) -> Bbox {
-    if flag < 8 {
-        return box_at(&ends, &[flag as u8], 0);
+    if flag > 7 || flag % 2 == 0 {
+        return Bbox::Missing;
     }
-    Bbox::Missing
+    Bbox::Known(BoundingBox {
+        x: filled_x(ends[0], ends[1]),
+        y: filled(ends[2], ends[3]),
+        z: flagged_dimension(flag / 2 % 2 == 1, ends[4], ends[5]),
+        m: flagged_dimension(flag / 4 == 1, ends[6], ends[7]),
+    })
+}
+
+// A z or an m, where it is known.
+fn flagged_dimension(known: bool, lo: f64, hi: f64) -> Dimension {
+    if known {
+        Dimension::Known(filled(lo, hi))
+    } else {
+        Dimension::Missing
+    }
 }
 
 // Puts a number, how many numbers an array has, and its six places.

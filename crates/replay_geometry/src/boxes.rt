@@ -1,5 +1,5 @@
 // Boxes as operands: spelled by the words of a line, or numbered among all that are made of a list
-// of intervals.
+// of intervals. Their fields are filled here, so that -0 comes to the calls as it is spelled.
 ghost use Prim.Native.Nat.{_≤_};
 use crate::digits::last_digit;
 use replay_text::words::Doubles;
@@ -47,12 +47,24 @@ pub fn is_box(missing: [bool; MOST_WORDS], place: usize) -> bool {
 pub fn box_at(words: Words, place: usize) -> BoundingBox {
     let at = place % PLACES;
     let ends = words.doubles;
-    BoundingBox::xyzm(
-        WraparoundInterval::new(ends[at], ends[at + 1]),
-        Interval::new(ends[at + 2], ends[at + 3]),
-        dimension_at(words, at + 4),
-        dimension_at(words, at + 6),
-    )
+    BoundingBox {
+        x: filled_x(ends[at], ends[at + 1]),
+        y: filled(ends[at + 2], ends[at + 3]),
+        z: dimension_at(words, at + 4),
+        m: dimension_at(words, at + 6),
+    }
+}
+
+// The interval with these ends.
+pub fn filled(lo: f64, hi: f64) -> Interval {
+    Interval { lo, hi }
+}
+
+// The x with these ends.
+pub fn filled_x(lo: f64, hi: f64) -> WraparoundInterval {
+    WraparoundInterval {
+        inner: filled(lo, hi),
+    }
 }
 
 // The z or m that two words from a place on spell.
@@ -62,7 +74,7 @@ fn dimension_at(words: Words, at: usize) -> Dimension
     if words.is_missing[at] {
         return Dimension::Missing;
     }
-    Dimension::Known(Interval::new(words.doubles[at], words.doubles[at + 1]))
+    Dimension::Known(filled(words.doubles[at], words.doubles[at + 1]))
 }
 
 // A box, and what is left of a number whose last four digits name it.
@@ -80,12 +92,14 @@ pub fn box_numbered(number: usize, ends: Doubles) -> Numbered {
     let y = last_digit(z.rest, count);
     let x = last_digit(y.rest, count);
     Numbered {
-        bounds: BoundingBox::xyzm(
-            WraparoundInterval::from_interval(interval_numbered(x.place, ends)),
-            interval_numbered(y.place, ends),
-            dimension_numbered(z.place, ends),
-            dimension_numbered(m.place, ends),
-        ),
+        bounds: BoundingBox {
+            x: WraparoundInterval {
+                inner: interval_numbered(x.place, ends),
+            },
+            y: interval_numbered(y.place, ends),
+            z: dimension_numbered(z.place, ends),
+            m: dimension_numbered(m.place, ends),
+        },
         rest: x.rest,
     }
 }
@@ -93,7 +107,7 @@ pub fn box_numbered(number: usize, ends: Doubles) -> Numbered {
 // The interval at a place. (The remainder by the length of the list changes nothing.)
 fn interval_numbered(place: usize, ends: Doubles) -> Interval {
     let at = place % MOST_INTERVALS * 2;
-    Interval::new(ends.list[at], ends.list[at + 1])
+    filled(ends.list[at], ends.list[at + 1])
 }
 
 // A z or an m: missing, or the interval at the place before.

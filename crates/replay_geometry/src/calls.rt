@@ -8,6 +8,8 @@ use crate::answer::of_set;
 use crate::boxes::BOX;
 use crate::boxes::are_boxes;
 use crate::boxes::box_at;
+use crate::boxes::filled;
+use crate::boxes::filled_x;
 use crate::lent::updated;
 use crate::names::*;
 use replay_text::words::Words;
@@ -81,11 +83,11 @@ pub fn make(call: Call, v: Four) -> Answer {
 
 // The operands: `LO HI`, then a value or the other's `LO HI`.
 fn make_of_interval(name: u8, v: Four) -> Answer {
-    let i = Interval::new(v.a, v.b);
+    let i = filled(v.a, v.b);
     let value = v.c;
-    let other = Interval::new(v.c, v.d);
+    let other = filled(v.c, v.d);
     match name {
-        NEW => Answer::Ends(i),
+        NEW => Answer::Ends(Interval::new(v.a, v.b)),
         EMPTY => Answer::Ends(Interval::empty()),
         FULL => Answer::Ends(Interval::full()),
         WIDTH => Answer::Double(i.width()),
@@ -113,11 +115,11 @@ fn test_of_interval(name: u8, i: Interval, value: f64, other: Interval) -> Answe
 
 // The operands are as for `Interval`.
 fn make_of_wraparound_interval(name: u8, v: Four) -> Answer {
-    let x = WraparoundInterval::new(v.a, v.b);
+    let x = filled_x(v.a, v.b);
     let value = v.c;
-    let other = WraparoundInterval::new(v.c, v.d);
+    let other = filled_x(v.c, v.d);
     match name {
-        NEW => ends(x),
+        NEW => ends(WraparoundInterval::new(v.a, v.b)),
         EMPTY => ends(WraparoundInterval::empty()),
         FULL => ends(WraparoundInterval::full()),
         WIDTH => Answer::Double(x.width()),
@@ -126,7 +128,7 @@ fn make_of_wraparound_interval(name: u8, v: Four) -> Answer {
         MERGE_VALUE => ends(x.merge_value(value)),
         EXPAND_BY => ends(x.expand_by(value)),
         INTERSECTION => intersected(x.intersection(other)),
-        FROM_INTERVAL => ends(WraparoundInterval::from_interval(Interval::new(v.a, v.b))),
+        FROM_INTERVAL => ends(WraparoundInterval::from_interval(filled(v.a, v.b))),
         _ => part_of_wraparound_interval(name, x, value, other),
     }
 }
@@ -177,20 +179,24 @@ fn make_of_float(name: u8, v: Four) -> Answer {
 // The operands are the ends of x and y, or none.
 fn make_of_ends(name: u8, v: Four) -> Answer {
     match name {
-        XY => Answer::Box(BoundingBox::xy(
-            WraparoundInterval::new(v.a, v.b),
-            Interval::new(v.c, v.d),
-        )),
+        XY => Answer::Box(BoundingBox::xy(filled_x(v.a, v.b), filled(v.c, v.d))),
         EMPTY => Answer::Box(BoundingBox::empty()),
         _ => Answer::Unknown,
     }
+}
+
+// The box that is made of a box's parts.
+fn made(b: BoundingBox) -> BoundingBox {
+    let z = b.z;
+    let m = b.m;
+    BoundingBox::xyzm(b.x, b.y, z, m)
 }
 
 // Makes a call that takes boxes: with another one or a distance where it takes that too.
 pub fn make_of_boxes(call: Call, b: BoundingBox, other: BoundingBox, distance: f64) -> Answer {
     let name = call.name;
     match name {
-        XYZM => Answer::Box(b),
+        XYZM => Answer::Box(made(b)),
         IS_EMPTY => Answer::Bool(b.is_empty()),
         INTERSECTS => Answer::Bool(b.intersects(other)),
         CONTAINS => Answer::Bool(b.contains(other)),

@@ -72,9 +72,9 @@ pub fn put_doubles(out: &mut Buffer, filled: usize, doubles: &[f64]) -> usize {
     at
 }
 
-// Puts the sign of a double; a zero has none.
+// Puts the sign of a double that is no NaN; -0 has one too.
 fn put_sign(out: &mut Buffer, filled: usize, x: f64) -> usize {
-    if x < 0.0 {
+    if bits(x) >= 0x8000_0000_0000_0000 {
         put(out, filled, b'-')
     } else {
         filled
@@ -92,12 +92,10 @@ fn put_fraction(out: &mut Buffer, filled: usize, n: u64) -> usize {
     put_decimal(out, at, 1024 >> halvings)
 }
 
-// The bits of a double, where every NaN counts as one and so do the two zeros.
+// The bits of a double, where every NaN counts as one.
 pub fn bits(x: f64) -> u64 {
     if x != x {
         0x7ff8_0000_0000_0000
-    } else if x == 0.0 {
-        0
     } else {
         f64::to_bits(x)
     }

@@ -9,7 +9,7 @@ use lib.Dec.{ltb}
 use lib.Ieee.Fits.{and-r}
 use borrow.Author.Tests.{ltb-true}
 use Rattle.sedona_geometry.specs.Interval as interval
-use Rattle.sedona_geometry.specs.BoundingBox.{DoublesWhereKnown, joinKnown, mergeDimensions, mergeBox}
+use Rattle.sedona_geometry.specs.BoundingBox.{DoublesWhereKnown, plusZeroWhereKnown, joinKnown, mergeDimensions}
 use Rattle.sedona_geometry.specs.Types.{merge, has}
 use Rattle.sedona_geometry.specs.declared.interval.Interval.{Interval}
 use Rattle.sedona_geometry.specs.declared.bounding_box.Dimension as Dimension
@@ -18,6 +18,7 @@ use Rattle.sedona_geometry.specs.declared.types.GeometryTypeAndDimensionsSet.{G
 use Rattle.sedona_geometry.proofs.Order.{holds, is-true, is-false, or-right, or-cases, le-refl, le-number}
 use Rattle.sedona_geometry.proofs.Accepts as plain
 use Rattle.sedona_geometry.proofs.Bits.{merge-has}
+use Rattle.sedona_geometry.proofs.Boxes as boxes
 use Rattle.sedona_expr.specs.Statistics as statistics
 use Rattle.sedona_expr.specs.Statistics.{mergeBboxes, mergeTypes, mergeParts, fold}
 use Rattle.sedona_expr.specs.SpatialFilter.{isZ, hasZType, mayBeZ, isKnownEmpty, hasEmptyZ, mayHaveZ}
@@ -43,7 +44,7 @@ module _ (Q : GeometryTypeAndDimensionsSet → Type 0) (keeps : (s t : GeometryT
 
   fold-set : (rs : List GeoStatistics) → fold rs .number ≡ 0 → Some (λ r. HasTypes Q (r .«geometry_types»)) rs → HasTypes Q (fold rs .rec .«geometry_types»)
   unfolding mergeParts
-  fold-set = fold-keeps-any (λ r. HasTypes Q (r .«geometry_types»)) (λ a b. merge-types (a .«geometry_types») (b .«geometry_types»))
+  fold-set = fold-keeps-any (λ r. HasTypes Q (r .«geometry_types»)) (λ a b. merge-types (a .«geometry_types») (b .«geometry_types»)) (λ a p. p)
 
 merge-bit : (k : ℕ) (s t : GeometryTypeAndDimensionsSet) → (has s k ≡ true) ⊎ (has t k ≡ true) → has (merge s t) k ≡ true
 merge-bit k s t h = merge-has s t k ∙ ⊎-elim (λ p. rw p) (λ q. is-true (has s k || has t k) (or-right (has s k) (has t k) (holds q))) h
@@ -77,16 +78,24 @@ merge-rising (Dimension.Known i) Dimension.Missing h = tt
 merge-rising (Dimension.Known i) (Dimension.Known j) h =
     ⊎-elim (λ p. rises (plain.merge-accepts-left j (lowest i p))) (λ q. rises (plain.merge-accepts-right i (lowest j q))) h
 
+plus-rising : (d : Dimension) → Rising d → Rising (plusZeroWhereKnown d)
+plus-rising Dimension.Missing h = tt
+plus-rising (Dimension.Known i) h = rises (plain.plus-accepts i (lowest i h))
+
+plus-z : (b : Bbox) → HasBox MissingOrRising b → HasBox MissingOrRising (statistics.plusZeroWhereKnown b)
+plus-z Bbox.Missing h = absurd h
+plus-z (Bbox.Known b) h = plus-rising (b .z) h
+
 merge-z : (a b : Bbox) → HasBox MissingOrRising a ⊎ HasBox MissingOrRising b → HasBox MissingOrRising (mergeBboxes a b)
-unfolding mergeBboxes mergeBox
-merge-z Bbox.Missing b h = ⊎-elim (λ p. absurd p) (λ q. q) h
-merge-z (Bbox.Known a) Bbox.Missing h = ⊎-elim (λ p. p) (λ q. absurd q) h
-merge-z (Bbox.Known a) (Bbox.Known b) h = merge-rising (a .z) (b .z) h
+unfolding mergeBboxes
+merge-z Bbox.Missing b h = ⊎-elim (λ p. absurd p) (λ q. plus-z b q) h
+merge-z (Bbox.Known a) Bbox.Missing h = ⊎-elim (λ p. plus-z (Bbox.Known a) p) (λ q. absurd q) h
+merge-z (Bbox.Known a) (Bbox.Known b) h = rw (boxes.merge-is a b) (merge-rising (a .z) (b .z) h)
 
 -- A fold's z is missing or low to high where a record of the list has it so.
 pub fold-z : (rs : List GeoStatistics) → fold rs .number ≡ 0 → Some (λ s. HasBox MissingOrRising (s .bbox)) rs → HasBox MissingOrRising (fold rs .rec .bbox)
 unfolding mergeParts
-fold-z = fold-keeps-any (λ s. HasBox MissingOrRising (s .bbox)) (λ a b. merge-z (a .bbox) (b .bbox))
+fold-z = fold-keeps-any (λ s. HasBox MissingOrRising (s .bbox)) (λ a b. merge-z (a .bbox) (b .bbox)) (λ a. plus-z (a .bbox))
 
 -- ---- which records may have z
 not-empty : (d : Dimension) → DoublesWhereKnown d → Rising d → isKnownEmpty d ≡ false

@@ -1,16 +1,22 @@
 -- The hypotheses of the theorems can be met: by two records with boxes and totals, which fit, one of them with types; and a total that leaves its range is refused.
--- Assumes nothing.
+-- And what calls give of a record with −0 is computed. Assumes nothing.
 use mathlib.Core.Path.{_≡_, refl}
 use mathlib.Core.Logic.{inl}
 use mathlib.Core.Bool.{true}
 use mathlib.Core.List.{List, [], _∷_, map}
 use Prim.Native.Nat.{ℕ, _^_}
 use lib.IntN.{ℤ, pos}
-use lib.Ieee.{le, round, ofInt}
+use lib.Ieee.{neg, sum, sub, lt, le, eq, isNan, round, ofInt}
+use Rattle.sedona_geometry.specs.Float.{minNum, maxNum}
+use Rattle.sedona_geometry.specs.Interval as interval
+use Rattle.sedona_geometry.specs.WraparoundInterval as wraparound
+use Rattle.sedona_geometry.specs.BoundingBox.{joinKnown, mergeBox}
 use Rattle.sedona_geometry.specs.Types.{fromBits, has}
+use Rattle.sedona_geometry.specs.declared.bounding_box.Dimension as Dimension
+use Rattle.sedona_geometry.specs.declared.bounding_box.Dimension.{Dimension}
 use Rattle.sedona_geometry.specs.declared.types.GeometryTypeAndDimensionsSet.{GeometryTypeAndDimensionsSet}
 use Rattle.sedona_geometry.proofs.Instances as boxes
-use Rattle.sedona_expr.specs.Statistics.{leaves, most, sumLeaves, totalsOverflow, countsOverflow, mergeValue, step, foldFrom, fold, All, DoublesWhereKnown, NoLess, Which, points, total, PrefixSumsFit, Tree, leaf, node, mergeTree, mergeAnswers, AllLeaves, empty}
+use Rattle.sedona_expr.specs.Statistics.{leaves, most, sumLeaves, totalsOverflow, countsOverflow, mergeBboxes, mergeParts, mergeValue, mergeOrKeep, merge, step, foldFrom, fold, All, DoublesWhereKnown, NoLess, Which, points, total, PrefixSumsFit, Tree, leaf, node, mergeTree, mergeAnswers, AllLeaves, empty}
 use Rattle.sedona_expr.specs.Demand.{HasBox, MissingOrRising, HasTypes}
 use Rattle.sedona_expr.specs.declared.statistics.Bbox as Bbox
 use Rattle.sedona_expr.specs.declared.statistics.Bbox.{Bbox}
@@ -92,3 +98,30 @@ at-the-limit = refl
 pub over-the-limit : fold (reading Bbox.Missing GeometryTypes.Missing most ∷ reading Bbox.Missing GeometryTypes.Missing (pos 1) ∷ []) .number ≡ 3
 unfolding leaves sumLeaves totalsOverflow countsOverflow mergeValue step foldFrom
 over-the-limit = refl
+
+-- ---- request 6: a record whose box a caller filled with −0
+abbrev signed : Bbox
+signed = Bbox.Known (record { x = boxes.signed-x; y = boxes.signed; z = Dimension.Known boxes.signed; m = Dimension.Known boxes.signed })
+
+abbrev unsigned : Bbox
+unsigned = Bbox.Known (record { x = boxes.unsigned-x; y = boxes.unsigned; z = Dimension.Known boxes.unsigned; m = Dimension.Known boxes.unsigned })
+
+abbrev with-zeros : Bbox → ℤ → GeoStatistics
+with-zeros b n = reading b GeometryTypes.Missing n
+
+-- merged with itself, kept by a missing box on either side, folded alone, and with a missing one: +0
+pub plus-zeros : All (λ (c : Bbox × Bbox). c .0 ≡ c .1) (
+    (mergeValue (with-zeros signed (pos 0)) (with-zeros signed (pos 0)) .rec .bbox, unsigned) ∷
+    (mergeValue (with-zeros signed (pos 0)) (with-zeros Bbox.Missing (pos 0)) .rec .bbox, unsigned) ∷
+    (mergeValue (with-zeros Bbox.Missing (pos 0)) (with-zeros signed (pos 0)) .rec .bbox, unsigned) ∷
+    (merge (with-zeros signed (pos 0)) (with-zeros Bbox.Missing (pos 0)) .rec .bbox, unsigned) ∷
+    (fold (with-zeros signed (pos 0) ∷ []) .rec .bbox, unsigned) ∷
+    (fold (with-zeros Bbox.Missing (pos 0) ∷ with-zeros signed (pos 0) ∷ []) .rec .bbox, unsigned) ∷
+    [])
+unfolding sub neg sum round lt eq isNan minNum maxNum interval.isEmpty interval.mergeInterval wraparound.isWraparound wraparound.mergeNonEmpty wraparound.mergeInterval joinKnown mergeBox leaves sumLeaves totalsOverflow countsOverflow mergeBboxes mergeParts mergeValue mergeOrKeep step foldFrom
+plus-zeros = (refl, (refl, (refl, (refl, (refl, (refl, tt))))))
+
+-- a refused merge leaves the record as it was, −0 and all
+pub refused-as-it-was : merge (with-zeros signed most) (with-zeros Bbox.Missing (pos 1)) ≡ record { number = 3; rec = with-zeros signed most }
+unfolding leaves sumLeaves totalsOverflow countsOverflow mergeValue mergeOrKeep
+refused-as-it-was = refl

@@ -9,9 +9,11 @@ use lib.Ieee.Fits.{nan-fits}
 use Rattle.sedona_geometry.specs.Interval as interval
 use Rattle.sedona_geometry.specs.BoundingBox.{Doubles, DoublesWhereKnown}
 use Rattle.sedona_geometry.specs.declared.bounding_box.BoundingBox.{BoundingBox}
+use Rattle.sedona_geometry.proofs.Accepts.{new-doubles, plus-doubles}
+use Rattle.sedona_geometry.proofs.Boxes.{plus-known-doubles}
 use Rattle.sedona_expr.specs.Statistics.{All}
 use Rattle.sedona_expr.specs.SpatialFilter.{Column, Filter, intersects, covers, hasZ, and, or, literalFalse, unknown}
-use Rattle.sedona_expr.specs.Tables.{Boxes, hasBox, intervalAt, boxWith, boxAt, orEmpty, Table, kind, word, isLeaf, isPair, areBelow, leafOf, pairOf, treeOf, treesBelow, treeAt, knowsZ, knowsM}
+use Rattle.sedona_expr.specs.Tables.{Boxes, hasBox, intervalAt, dimension, boxWith, boxAt, orEmpty, Table, kind, word, isLeaf, isPair, areBelow, leafOf, pairOf, treeOf, treesBelow, treeAt, knowsZ, knowsM}
 use Rattle.sedona_expr.specs.Demand.{Leaf, ofBox, aHasZ, EachLeaf, OfLiteral}
 use Rattle.sedona_expr.proofs.StraightBoxes.{empty-straight}
 
@@ -72,15 +74,17 @@ module _ (b : Boxes) (h : All (λ d. T (fits binary64 d)) (b .doubles)) where
   end-fits i = of-getD (λ d. T (fits binary64 d)) (b .doubles) i (nan-fits binary64) h
 
   interval-doubles : (i k : ℕ) → interval.Doubles (intervalAt (b .doubles) i k)
-  interval-doubles i k = record { lo = end-fits (8 * i + 2 * k); hi = end-fits (8 * i + 2 * k + 1) }
+  interval-doubles i k =
+      let at = 8 * i + 2 * k in
+      new-doubles (getD (b .doubles) at nan) (getD (b .doubles) (at + 1) nan) (end-fits at) (end-fits (at + 1))
 
   box-doubles : (i flag : ℕ) → Doubles (boxWith (b .doubles) i flag)
   unfolding boxWith
   box-doubles i flag = record {
-    x = interval-doubles i 0;
-    y = interval-doubles i 1;
-    z = of-cond DoublesWhereKnown (knowsZ flag) (interval-doubles i 2) tt;
-    m = of-cond DoublesWhereKnown (knowsM flag) (interval-doubles i 3) tt;
+    x = plus-doubles (plus-doubles (interval-doubles i 0));
+    y = plus-doubles (interval-doubles i 1);
+    z = plus-known-doubles (dimension (knowsZ flag) (intervalAt (b .doubles) i 2)) (of-cond DoublesWhereKnown (knowsZ flag) (interval-doubles i 2) tt);
+    m = plus-known-doubles (dimension (knowsM flag) (intervalAt (b .doubles) i 3)) (of-cond DoublesWhereKnown (knowsM flag) (interval-doubles i 3) tt);
   }
 
   pub literal-doubles : (i : ℕ) → Doubles (orEmpty (boxAt b i))

@@ -1,3 +1,4 @@
+pub mod Canonical
 pub mod Demand3
 pub mod Folding
 pub mod Folds

@@ -11,7 +11,7 @@ use Rattle.sedona_geometry.specs.declared.bounding_box.Dimension.{Dimension}
 use Rattle.sedona_geometry.specs.declared.bounding_box.BoundingBox.{BoundingBox}
 use Rattle.sedona_geometry.proofs.Order.{holds, is-true, or-right}
 use Rattle.sedona_geometry.proofs.Boxes as boxes
-use Rattle.sedona_expr.specs.Statistics.{All, DoublesWhereKnown, NoLess, mergeBboxes, mergeParts, fold}
+use Rattle.sedona_expr.specs.Statistics.{All, DoublesWhereKnown, NoLess, plusZeroWhereKnown, mergeBboxes, mergeParts, fold}
 use Rattle.sedona_expr.specs.SpatialFilter.{Column, Filter, intersects, covers, hasZ, and, or, literalFalse, unknown, mayIntersect, mayCover, mayHaveZ, answer}
 use Rattle.sedona_expr.specs.Demand.{Cell, HasBox, MissingOrRising, HoldsZ, Holds, Leaf, aHasZ, EachLeaf, Some, Folds, HasBit}
 use Rattle.sedona_expr.specs.declared.statistics.Bbox as Bbox
@@ -61,10 +61,14 @@ may-intersect (Bbox.Known c) (Bbox.Known b) k n h = boxes.common-intersect (comm
 abbrev Covering : BoundingBox → Bbox → Type 0
 Covering k = HasBox (λ b. boundingBox.contains b k ≡ true)
 
+plus-covering : (k : BoundingBox) (b : Bbox) → Covering k b → Covering k (plusZeroWhereKnown b)
+plus-covering k Bbox.Missing h = absurd h
+plus-covering k (Bbox.Known b) h = boxes.whole (boxes.plus-contains (boxes.parts h))
+
 merge-covering : (k : BoundingBox) (a b : Bbox) → DoublesWhereKnown a → DoublesWhereKnown b → Covering k a ⊎ Covering k b → Covering k (mergeBboxes a b)
 unfolding mergeBboxes
-merge-covering k Bbox.Missing b D E h = ⊎-elim (λ p. absurd p) (λ q. q) h
-merge-covering k (Bbox.Known a) Bbox.Missing D E h = ⊎-elim (λ p. p) (λ q. absurd q) h
+merge-covering k Bbox.Missing b D E h = ⊎-elim (λ p. absurd p) (λ q. plus-covering k b q) h
+merge-covering k (Bbox.Known a) Bbox.Missing D E h = ⊎-elim (λ p. plus-covering k (Bbox.Known a) p) (λ q. absurd q) h
 merge-covering k (Bbox.Known a) (Bbox.Known b) D E h = boxes.whole (boxes.merge-contains D E (⊎-elim (λ p. inl (boxes.parts p)) (λ q. inr (boxes.parts q)) h))
 
 may-cover : (o : Bbox) (k : BoundingBox) → Covering k o → mayCover o k ≡ true
@@ -80,13 +84,13 @@ module _ {f : Leaf} {rs : List GeoStatistics} {own : Cell} {lent : ColumnRecord}
   fold-no-less : NoLess (lent .bbox) (own .bbox)
   fold-no-less = rw (F .folded) (of-own (NoLess (fold rs .rec .bbox)) rs (no-box-shrinks rs (F .doubles) (F .fit)) own-box)
 
-  -- what merging two boxes keeps, the fold keeps
+  -- what merging two boxes keeps, the fold keeps; a box is handed on as if merged with a missing one
   kept : (P : Bbox → Type 0) → ((a b : Bbox) → DoublesWhereKnown a → DoublesWhereKnown b → P a ⊎ P b → P (mergeBboxes a b)) → P (own .bbox) → P (lent .bbox)
-  unfolding mergeParts
+  unfolding mergeParts mergeBboxes
   kept P keep h =
       rw (F .folded)
-      (fold-keeps (λ s. DoublesWhereKnown (s .bbox)) (λ s. P (s .bbox)) (λ a b. merge-doubles (a .bbox) (b .bbox)) (λ a b. keep (a .bbox) (b .bbox)) rs (F .doubles) (F .fit)
-      (some-own P rs h own-box))
+      (fold-keeps (λ s. DoublesWhereKnown (s .bbox)) (λ s. P (s .bbox)) (λ a b. merge-doubles (a .bbox) (b .bbox)) (λ a. merge-doubles Bbox.Missing (a .bbox) tt)
+      (λ a b. keep (a .bbox) (b .bbox)) (λ a D p. keep Bbox.Missing (a .bbox) tt D (inr p)) rs (F .doubles) (F .fit) (some-own P rs h own-box))
 
   fold-doubles : DoublesWhereKnown (lent .bbox)
   fold-doubles = kept DoublesWhereKnown (λ a b D E h. merge-doubles a b D E) (of-own DoublesWhereKnown rs (F .doubles) own-box)

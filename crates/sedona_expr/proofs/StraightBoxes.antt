@@ -10,6 +10,7 @@ use Rattle.sedona_geometry.specs.declared.bounding_box.Dimension as Dimension
 use Rattle.sedona_geometry.specs.declared.bounding_box.Dimension.{Dimension}
 use Rattle.sedona_geometry.specs.declared.bounding_box.BoundingBox.{BoundingBox}
 use Rattle.sedona_geometry.proofs.Order.{infinite, bottom}
+use Rattle.sedona_geometry.proofs.Accepts as plain
 use Rattle.sedona_geometry.proofs.Wrapping.{infinite-doubles}
 use Rattle.sedona_geometry.proofs.Contains as containing
 use Rattle.sedona_geometry.proofs.Contains.{Straight}
@@ -36,10 +37,9 @@ full-straight = record {
 }
 
 pub merge-straight : {a b : BoundingBox} → StraightBox a → StraightBox b → StraightBox (mergeBox a b)
-unfolding mergeBox
-merge-straight s t = record {
+merge-straight {a} {b} s t = record {
   doubles = boxes.merge-doubles (s .doubles) (t .doubles);
-  x = containing.merge-straight (s .doubles .x) (t .doubles .x) (s .x) (t .x);
+  x = rw (boxes.merge-is a b) (containing.merge-straight (s .doubles .x) (t .doubles .x) (s .x) (t .x));
 }
 
 intersect-dimensions-doubles : (d e : Dimension) → DoublesWhereKnown d → DoublesWhereKnown e → DoublesWhereKnown (intersectDimensions d e)
@@ -55,7 +55,7 @@ met-straight {a} {b} s t =
     let n = containing.straight-numbers (s .x) in
     record {
       doubles = record {
-        x = containing.intersection-doubles (D .x) (E .x);
+        x = plain.plus-doubles (containing.intersection-doubles (D .x) (E .x));
         y = containing.intersection-doubles (D .y) (E .y);
         z = intersect-dimensions-doubles (a .z) (b .z) (D .z) (E .z);
         m = intersect-dimensions-doubles (a .m) (b .m) (D .m) (E .m);

@@ -9,7 +9,7 @@ use borrow.Author.Tests.{eqb-true, eqb-false}
 use lib.Dec.{eqb}
 use Rattle.sedona_geometry.proofs.Order.{fails}
 use Rattle.sedona_geometry.proofs.Boxes as boxes
-use Rattle.sedona_expr.specs.Statistics.{mergeBboxes, addExtents, addTotals, sumLeaves, totalsOverflow, countsOverflow, mergeParts, refused, mergeValue, foldFrom, fold, All, DoublesWhereKnown, NoLess, Which, geometries, sizeBytes, points, puntal, lineal, polygonal, collection, total, Side, width, height, extent, plus, sum, wholeSum, addAll, PrefixSumsFit, Tree, leaf, node, mergeAnswers, mergeTree, AllLeaves}
+use Rattle.sedona_expr.specs.Statistics.{plusZeroWhereKnown, mergeBboxes, addExtents, addTotals, sumLeaves, totalsOverflow, countsOverflow, mergeParts, plusZero, refused, mergeValue, foldFrom, fold, All, DoublesWhereKnown, NoLess, Which, geometries, sizeBytes, points, puntal, lineal, polygonal, collection, total, Side, width, height, extent, plus, sum, wholeSum, addAll, PrefixSumsFit, Tree, leaf, node, mergeAnswers, mergeTree, AllLeaves}
 use Rattle.sedona_expr.specs.Error as error
 use Rattle.sedona_expr.specs.declared.statistics.Bbox as Bbox
 use Rattle.sedona_expr.specs.declared.statistics.Bbox.{Bbox}
@@ -26,6 +26,14 @@ no-less-refl : (b : Bbox) → NoLess b b
 no-less-refl Bbox.Missing = tt
 no-less-refl (Bbox.Known a) = boxes.no-less-refl a
 
+plus-no-less : (b : Bbox) → NoLess (plusZeroWhereKnown b) b
+plus-no-less Bbox.Missing = tt
+plus-no-less (Bbox.Known a) = boxes.plus-no-less a
+
+plus-doubles : (b : Bbox) → DoublesWhereKnown b → DoublesWhereKnown (plusZeroWhereKnown b)
+plus-doubles Bbox.Missing D = tt
+plus-doubles (Bbox.Known a) D = boxes.plus-doubles D
+
 no-less-trans : (c b a : Bbox) → NoLess c b → NoLess b a → NoLess c a
 no-less-trans c b Bbox.Missing p q = tt
 no-less-trans c Bbox.Missing (Bbox.Known a) p q = absurd q
@@ -35,19 +43,19 @@ no-less-trans (Bbox.Known c) (Bbox.Known b) (Bbox.Known a) p q = boxes.no-less-t
 merge-no-less-left : (a b : Bbox) → DoublesWhereKnown a → DoublesWhereKnown b → NoLess (mergeBboxes a b) a
 unfolding mergeBboxes
 merge-no-less-left Bbox.Missing b D E = tt
-merge-no-less-left (Bbox.Known a) Bbox.Missing D E = boxes.no-less-refl a
+merge-no-less-left (Bbox.Known a) Bbox.Missing D E = boxes.plus-no-less a
 merge-no-less-left (Bbox.Known a) (Bbox.Known b) D E = boxes.merge-no-less-left D E
 
 merge-no-less-right : (a b : Bbox) → DoublesWhereKnown a → DoublesWhereKnown b → NoLess (mergeBboxes a b) b
 unfolding mergeBboxes
-merge-no-less-right Bbox.Missing b D E = no-less-refl b
+merge-no-less-right Bbox.Missing b D E = plus-no-less b
 merge-no-less-right (Bbox.Known a) Bbox.Missing D E = tt
 merge-no-less-right (Bbox.Known a) (Bbox.Known b) D E = boxes.merge-no-less-right D E
 
 pub merge-doubles : (a b : Bbox) → DoublesWhereKnown a → DoublesWhereKnown b → DoublesWhereKnown (mergeBboxes a b)
 unfolding mergeBboxes
-merge-doubles Bbox.Missing b D E = E
-merge-doubles (Bbox.Known a) Bbox.Missing D E = D
+merge-doubles Bbox.Missing b D E = plus-doubles b E
+merge-doubles (Bbox.Known a) Bbox.Missing D E = boxes.plus-doubles D
 merge-doubles (Bbox.Known a) (Bbox.Known b) D E = boxes.merge-doubles D E
 
 -- of the first record and of each that is merged in
@@ -67,9 +75,11 @@ merged-no-less a (r ∷ rs) D E =
 pub no-box-shrinks : (rs : List GeoStatistics) → All (λ r. DoublesWhereKnown (r .bbox)) rs → fold rs .number ≡ 0 → All (λ r. NoLess (fold rs .rec .bbox) (r .bbox)) rs
 no-box-shrinks [] D e = tt
 no-box-shrinks (r ∷ rs) D e =
-    let f = fits-of-fold r rs (rw (fold-first r rs) at e) in
-    let k = merged-no-less r rs (D .0) (D .1) in
-    subst (λ (g : Folded). All (λ s. NoLess (g .rec .bbox) (s .bbox)) (r ∷ rs)) (sym (fold-first r rs ∙ fold-of-fits r rs f)) (k .0, k .1)
+    let a = plusZero r in
+    let f = fits-of-fold a rs (rw (fold-first r rs) at e) in
+    let k = merged-no-less a rs (plus-doubles (r .bbox) (D .0)) (D .1) in
+    subst (λ (g : Folded). All (λ s. NoLess (g .rec .bbox) (s .bbox)) (r ∷ rs)) (sym (fold-first r rs ∙ fold-of-fits a rs f))
+    (no-less-trans (mergeAll a rs .bbox) (a .bbox) (r .bbox) (k .0) (plus-no-less (r .bbox)), k .1)
 
 -- ---- totals
 total-merged : (w : Which) (a b : GeoStatistics) → total w (mergeParts a b) ≡ addTotals (total w a) (total w b)
@@ -81,6 +91,16 @@ total-merged puntal a b = refl
 total-merged lineal a b = refl
 total-merged polygonal a b = refl
 total-merged collection a b = refl
+
+-- a record handed on keeps its totals
+total-plus : (w : Which) (a : GeoStatistics) → total w (plusZero a) ≡ total w a
+total-plus geometries a = refl
+total-plus sizeBytes a = refl
+total-plus points a = refl
+total-plus puntal a = refl
+total-plus lineal a = refl
+total-plus polygonal a = refl
+total-plus collection a = refl
 
 -- no total of the seven leaves the range exactly where the step does not overflow
 neither : (p q : Bool) → (p || q) ≡ false → (p ≡ false) × (q ≡ false)
@@ -145,8 +165,10 @@ merged-total w a (r ∷ rs) h =
 -- Merged totals are sums: a fold's total is known exactly where every record's is, and is then their sum over the whole numbers.
 pub totals-are-sums : (w : Which) (r : GeoStatistics) (rs : List GeoStatistics) → fold (r ∷ rs) .number ≡ 0 → total w (fold (r ∷ rs) .rec) ≡ sum (map (total w) (r ∷ rs))
 totals-are-sums w r rs e =
-    let f = fits-of-fold r rs (rw (fold-first r rs) at e) in
-    ap (λ (g : Folded). total w (g .rec)) (fold-first r rs ∙ fold-of-fits r rs f) ∙ merged-total w r rs f
+    let f = fits-of-fold (plusZero r) rs (rw (fold-first r rs) at e) in
+    ap (λ (g : Folded). total w (g .rec)) (fold-first r rs ∙ fold-of-fits (plusZero r) rs f)
+    ∙ merged-total w (plusZero r) rs f
+    ∙ ap (λ (t : Total). plus t (sum (map (total w) rs))) (total-plus w r)
 
 -- a sum is known exactly where each total is
 pub sum-missing : (ts us : List Total) → sum (ts ++ (Total.Missing ∷ us)) ≡ Total.Missing
@@ -164,14 +186,20 @@ unfolding mergeParts
 extent-merged width a b = refl
 extent-merged height a b = refl
 
+extent-plus : (s : Side) (a : GeoStatistics) → extent s (plusZero a) ≡ extent s a
+extent-plus width a = refl
+extent-plus height a = refl
+
 merged-extent : (s : Side) (a : GeoStatistics) (rs : List GeoStatistics) → extent s (mergeAll a rs) ≡ addAll (extent s a) (map (extent s) rs)
 merged-extent s a [] = refl
 merged-extent s a (r ∷ rs) = merged-extent s (mergeParts a r) rs ∙ ap (λ (e : Extent). addAll e (map (extent s) rs)) (extent-merged s a r)
 
 pub extents-are-sums : (s : Side) (r : GeoStatistics) (rs : List GeoStatistics) → fold (r ∷ rs) .number ≡ 0 → extent s (fold (r ∷ rs) .rec) ≡ addAll (extent s r) (map (extent s) rs)
 extents-are-sums s r rs e =
-    let f = fits-of-fold r rs (rw (fold-first r rs) at e) in
-    ap (λ (g : Folded). extent s (g .rec)) (fold-first r rs ∙ fold-of-fits r rs f) ∙ merged-extent s r rs
+    let f = fits-of-fold (plusZero r) rs (rw (fold-first r rs) at e) in
+    ap (λ (g : Folded). extent s (g .rec)) (fold-first r rs ∙ fold-of-fits (plusZero r) rs f)
+    ∙ merged-extent s (plusZero r) rs
+    ∙ ap (λ (t : Extent). addAll t (map (extent s) rs)) (extent-plus s r)
 
 -- ---- refusals
 fits-of-prefixes : (a : GeoStatistics) (rs : List GeoStatistics) → ((w : Which) → PrefixSumsFit (total w a) (map (total w) rs)) → Fits a rs
@@ -190,15 +218,19 @@ prefixes-of-fits w a (r ∷ rs) h =
 
 -- Totals that fit are never refused; and a fold is refused, with 3, exactly where some total has a prefix sum that leaves the range.
 pub totals-that-fit : (r : GeoStatistics) (rs : List GeoStatistics) → ((w : Which) → PrefixSumsFit (total w r) (map (total w) rs)) → fold (r ∷ rs) .number ≡ 0
-totals-that-fit r rs h = ap (λ (g : Folded). g .number) (fold-first r rs ∙ fold-of-fits r rs (fits-of-prefixes r rs h))
+totals-that-fit r rs h =
+    let k : (w : Which) → PrefixSumsFit (total w (plusZero r)) (map (total w) rs) = λ w. subst (λ (t : Total). PrefixSumsFit t (map (total w) rs)) (sym (total-plus w r)) (h w) in
+    ap (λ (g : Folded). g .number) (fold-first r rs ∙ fold-of-fits (plusZero r) rs (fits-of-prefixes (plusZero r) rs k))
 
 pub not-refused-fit : (r : GeoStatistics) (rs : List GeoStatistics) → fold (r ∷ rs) .number ≡ 0 → (w : Which) → PrefixSumsFit (total w r) (map (total w) rs)
-not-refused-fit r rs e w = prefixes-of-fits w r rs (fits-of-fold r rs (rw (fold-first r rs) at e))
+not-refused-fit r rs e w =
+    subst (λ (t : Total). PrefixSumsFit t (map (total w) rs)) (total-plus w r)
+    (prefixes-of-fits w (plusZero r) rs (fits-of-fold (plusZero r) rs (rw (fold-first r rs) at e)))
 
 pub refused-with-three : (rs : List GeoStatistics) → (fold rs .number ≡ 0) ⊎ (fold rs .number ≡ error.overflow)
 unfolding foldFrom
 refused-with-three [] = inl refl
-refused-with-three (r ∷ rs) = rw (fold-first r rs) (fold-number r rs)
+refused-with-three (r ∷ rs) = rw (fold-first r rs) (fold-number (plusZero r) rs)
 
 -- ---- trees of merges
 merge-accepted : (a b : GeoStatistics) → mergeValue a b .number ≡ 0 → mergeValue a b .rec ≡ mergeParts a b

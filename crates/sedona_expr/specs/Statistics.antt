@@ -25,10 +25,15 @@ use Rattle.sedona_expr.specs.declared.statistics.Folded.{Folded}
 
 -- ---- the parts
 
+-- Where a call hands a box on.
+abbrev pub plusZeroWhereKnown : Bbox → Bbox
+plusZeroWhereKnown Bbox.Missing = Bbox.Missing
+plusZeroWhereKnown (Bbox.Known a) = Bbox.Known (boundingBox.plusZero a)
+
 -- Boxes merge; a missing one yields the other.
 unfoldable pub mergeBboxes : Bbox → Bbox → Bbox
-mergeBboxes Bbox.Missing b = b
-mergeBboxes (Bbox.Known a) Bbox.Missing = Bbox.Known a
+mergeBboxes Bbox.Missing b = plusZeroWhereKnown b
+mergeBboxes (Bbox.Known a) Bbox.Missing = Bbox.Known (boundingBox.plusZero a)
 mergeBboxes (Bbox.Known a) (Bbox.Known b) = Bbox.Known (boundingBox.mergeBox a b)
 
 -- Type sets are or-ed; a missing one yields the other.
@@ -98,6 +103,22 @@ empty = record {
   «total_envelope_height» = Extent.Known float.zero;
 }
 
+-- Where a call hands a record on. The two lengths are no intervals, and stay.
+abbrev pub plusZero : GeoStatistics → GeoStatistics
+plusZero a = record {
+  bbox = plusZeroWhereKnown (a .bbox);
+  «geometry_types» = a .«geometry_types»;
+  «total_geometries» = a .«total_geometries»;
+  «total_size_bytes» = a .«total_size_bytes»;
+  «total_points» = a .«total_points»;
+  «puntal_count» = a .«puntal_count»;
+  «lineal_count» = a .«lineal_count»;
+  «polygonal_count» = a .«polygonal_count»;
+  «collection_count» = a .«collection_count»;
+  «total_envelope_width» = a .«total_envelope_width»;
+  «total_envelope_height» = a .«total_envelope_height»;
+}
+
 -- A number alone: the record beside it is UNSPECIFIED.
 abbrev pub refused : ℕ → Merged
 refused n = record { number = n; rec = unspecified }
@@ -151,14 +172,18 @@ start = record { number = 0; any = false; rec = unspecified }
 
 -- Of one record.
 abbrev pub first : GeoStatistics → Folded
-first r = record { number = 0; any = true; rec = r }
+first r = record { number = 0; any = true; rec = plusZero r }
 
 abbrev pub ofMerged : Merged → Folded
 ofMerged m = record { number = m .number; any = true; rec = m .rec }
 
--- With a record more: a refusal stays, the first record is taken as it is, a further one is merged.
+-- A refusal.
+abbrev pub stays : Folded → Folded
+stays f = record { number = f .number; any = f .any; rec = plusZero (f .rec) }
+
+-- With a record more: a refusal stays, the first record is taken, a further one is merged.
 unfoldable pub step : Folded → GeoStatistics → Folded
-step f r = cond (eqb (f .number) 0) (cond (f .any) (ofMerged (mergeValue (f .rec) r)) (first r)) f
+step f r = cond (eqb (f .number) 0) (cond (f .any) (ofMerged (mergeValue (f .rec) r)) (first r)) (stays f)
 
 unfoldable pub foldFrom : Folded → List GeoStatistics → Folded
 foldFrom f [] = f
@@ -178,6 +203,11 @@ All P (x ∷ xs) = P x × All P xs
 abbrev pub DoublesWhereKnown : Bbox → Type 0
 DoublesWhereKnown Bbox.Missing = Unit {0}
 DoublesWhereKnown (Bbox.Known a) = boundingBox.Doubles a
+
+-- Request 6: no end of a record's box, where it has one, is −0.
+abbrev pub CanonicalWhereKnown : Bbox → Type 0
+CanonicalWhereKnown Bbox.Missing = Unit {0}
+CanonicalWhereKnown (Bbox.Known a) = boundingBox.Canonical a
 
 -- The box of c accepts every number that the box of b accepts, in x, y, and in z and m where c knows them, which it does only where b does.
 abbrev pub NoLess : Bbox → Bbox → Type 0

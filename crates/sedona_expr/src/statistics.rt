@@ -50,15 +50,27 @@ pub struct Merged {
 }
 
 impl Bbox {
+    // Handed on, with +0 for zero.
+    fn plus_zero(self) -> Bbox
+        ensures { λ r. ⌜ r ≡ statistics.plusZeroWhereKnown self ⌝ }
+    {
+        let Bbox::Known(a) = self else {
+            return Bbox::Missing;
+        };
+        let z = a.z;
+        let m = a.m;
+        Bbox::Known(BoundingBox::xyzm(a.x, a.y, z, m))
+    }
+
     // The two merged; where one is missing, the other.
     fn merge(self, other: Bbox) -> Bbox
         ensures { λ r. ⌜ r ≡ statistics.mergeBboxes self other ⌝ }
     {
         let Bbox::Known(a) = self else {
-            return other;
+            return other.plus_zero();
         };
         let Bbox::Known(b) = other else {
-            return self;
+            return self.plus_zero();
         };
         Bbox::Known(a.merge_box(b))
     }
@@ -176,6 +188,36 @@ impl GeoStatistics {
             collection_count: none,
             total_envelope_width: no_extent,
             total_envelope_height: no_extent,
+        }
+    }
+
+    // Handed on, with +0 for zero in its box.
+    fn plus_zero(self) -> GeoStatistics
+        ensures { λ r. ⌜ r ≡ statistics.plusZero self ⌝ }
+    {
+        let bbox = self.bbox;
+        let geometry_types = self.geometry_types;
+        let total_geometries = self.total_geometries;
+        let total_size_bytes = self.total_size_bytes;
+        let total_points = self.total_points;
+        let puntal_count = self.puntal_count;
+        let lineal_count = self.lineal_count;
+        let polygonal_count = self.polygonal_count;
+        let collection_count = self.collection_count;
+        let total_envelope_width = self.total_envelope_width;
+        let total_envelope_height = self.total_envelope_height;
+        GeoStatistics {
+            bbox: bbox.plus_zero(),
+            geometry_types,
+            total_geometries,
+            total_size_bytes,
+            total_points,
+            puntal_count,
+            lineal_count,
+            polygonal_count,
+            collection_count,
+            total_envelope_width,
+            total_envelope_height,
         }
     }
 
@@ -341,13 +383,17 @@ impl Folded {
         ensures { λ r. ⌜ r ≡ statistics.step self next ⌝ }
     {
         if self.number != 0 {
-            return self;
+            return Folded {
+                number: self.number,
+                any: self.any,
+                rec: self.rec.plus_zero(),
+            };
         }
         if !self.any {
             return Folded {
                 number: 0,
                 any: true,
-                rec: next,
+                rec: next.plus_zero(),
             };
         }
         let out = self.rec.merge_value(next);

@@ -1,21 +1,33 @@
 -- Laws of boxes: merging loses nothing, a common number means intersecting, merging and intersecting keep what is contained.
 -- Each is said once for a dimension. Assumes nothing.
-use mathlib.Core.Path.{_≡_, refl}
+use mathlib.Core.Path.{_≡_, refl, ap, _∙_}
 use mathlib.Core.Logic.{_⊎_, inl, inr, ⊎-elim}
 use mathlib.Core.Bool.{Bool, true, false, _&&_}
 use lib.Ieee.Fits.{and-l, and-r}
 use Rattle.sedona_geometry.specs.Interval as interval
 use Rattle.sedona_geometry.specs.WraparoundInterval as wraparound
-use Rattle.sedona_geometry.specs.BoundingBox.{testKnown, joinKnown, dimensionsIntersect, dimensionsContain, mergeDimensions, intersectDimensions, intersects, contains, mergeBox, withX, intersection, accepted, xyzm, WhereKnown, DoublesWhereKnown, Doubles, AcceptsAllOfKnown, NoLess, Common}
+use Rattle.sedona_geometry.specs.BoundingBox.{testKnown, joinKnown, dimensionsIntersect, dimensionsContain, mergeDimensions, intersectDimensions, intersects, contains, mergeBox, withX, intersection, accepted, plusZeroWhereKnown, plusZero, WhereKnown, DoublesWhereKnown, Doubles, Canonical, AcceptsAllOfKnown, NoLess, Common}
 use Rattle.sedona_geometry.specs.declared.bounding_box.Dimension.{Dimension}
 use Rattle.sedona_geometry.specs.declared.bounding_box.Dimension.the-variants.{Missing, Known}
 use Rattle.sedona_geometry.specs.declared.bounding_box.BoundingBox.{BoundingBox}
 use Rattle.sedona_geometry.proofs.Order.{Le, holds, is-true}
+use Rattle.sedona_geometry.proofs.Alike as alike
+use Rattle.sedona_geometry.proofs.Canonical as canonical
+use Rattle.sedona_geometry.proofs.Canonical.{xyzm-is, stays-box, accepted-is}
 use Rattle.sedona_geometry.proofs.Accepts as plain
 use Rattle.sedona_geometry.proofs.Accepts.{Contains}
 use Rattle.sedona_geometry.proofs.Wrapping as wrapping
 use Rattle.sedona_geometry.proofs.Contains as containing
 use Rattle.sedona_geometry.proofs.Contains.{Straight}
+
+-- ---- what is merged is made of merged parts
+pub merge-is : (a b : BoundingBox)
+    → mergeBox a b
+    ≡ record { x = wraparound.mergeInterval (a .x) (b .x); y = interval.mergeInterval (a .y) (b .y); z = mergeDimensions (a .z) (b .z); m = mergeDimensions (a .m) (b .m) }
+unfolding mergeBox
+merge-is a b =
+    xyzm-is (wraparound.mergeInterval (a .x) (b .x)) (interval.mergeInterval (a .y) (b .y)) (mergeDimensions (a .z) (b .z)) (mergeDimensions (a .m) (b .m))
+    (canonical.merge-x-canonical (a .x) (b .x)) (canonical.merge-canonical (a .y) (b .y)) (canonical.merge-dimensions-canonical (a .z) (b .z)) (canonical.merge-dimensions-canonical (a .m) (b .m))
 
 -- ---- merging loses nothing
 merge-dimensions-left : (d e : Dimension) → AcceptsAllOfKnown (mergeDimensions d e) d
@@ -31,21 +43,44 @@ merge-dimensions-right (Known i) Missing = tt
 merge-dimensions-right (Known i) (Known j) = λ v h. plain.merge-accepts-right i h
 
 pub merge-no-less-left : {a b : BoundingBox} → Doubles a → Doubles b → NoLess (mergeBox a b) a
-unfolding mergeBox
-merge-no-less-left {a} {b} D E = record {
+merge-no-less-left {a} {b} D E = rw (merge-is a b) (record {
   x = λ v h. wrapping.merge-accepts (D .x) (E .x) (inl h);
   y = λ v h. plain.merge-accepts-left (b .y) h;
   z = merge-dimensions-left (a .z) (b .z);
   m = merge-dimensions-left (a .m) (b .m);
-}
+})
 
 pub merge-no-less-right : {a b : BoundingBox} → Doubles a → Doubles b → NoLess (mergeBox a b) b
-unfolding mergeBox
-merge-no-less-right {a} {b} D E = record {
+merge-no-less-right {a} {b} D E = rw (merge-is a b) (record {
   x = λ v h. wrapping.merge-accepts (D .x) (E .x) (inr h);
   y = λ v h. plain.merge-accepts-right (a .y) h;
   z = merge-dimensions-right (a .z) (b .z);
   m = merge-dimensions-right (a .m) (b .m);
+})
+
+-- ---- a box handed on
+plus-known-no-less : (d : Dimension) → AcceptsAllOfKnown (plusZeroWhereKnown d) d
+plus-known-no-less Missing = tt
+plus-known-no-less (Known i) = λ v h. plain.plus-accepts i h
+
+pub plus-no-less : (a : BoundingBox) → NoLess (plusZero a) a
+plus-no-less a = record {
+  x = λ v h. wrapping.plus-accepts h;
+  y = λ v h. plain.plus-accepts (a .y) h;
+  z = plus-known-no-less (a .z);
+  m = plus-known-no-less (a .m);
+}
+
+pub plus-known-doubles : (d : Dimension) → DoublesWhereKnown d → DoublesWhereKnown (plusZeroWhereKnown d)
+plus-known-doubles Missing D = tt
+plus-known-doubles (Known i) D = plain.plus-doubles D
+
+pub plus-doubles : {a : BoundingBox} → Doubles a → Doubles (plusZero a)
+plus-doubles {a} D = record {
+  x = plain.plus-doubles (D .x);
+  y = plain.plus-doubles (D .y);
+  z = plus-known-doubles (a .z) (D .z);
+  m = plus-known-doubles (a .m) (D .m);
 }
 
 -- ---- merged ends are doubles
@@ -56,13 +91,12 @@ merge-dimensions-doubles (Known i) Missing D E = tt
 merge-dimensions-doubles (Known i) (Known j) D E = plain.merge-doubles D E
 
 pub merge-doubles : {a b : BoundingBox} → Doubles a → Doubles b → Doubles (mergeBox a b)
-unfolding mergeBox
-merge-doubles {a} {b} D E = record {
+merge-doubles {a} {b} D E = rw (merge-is a b) (record {
   x = wrapping.merge-doubles (D .x) (E .x);
   y = plain.merge-doubles (D .y) (E .y);
   z = merge-dimensions-doubles (a .z) (b .z) (D .z) (E .z);
   m = merge-dimensions-doubles (a .m) (b .m) (D .m) (E .m);
-}
+})
 
 -- ---- accepting no less is a preorder
 known-refl : (d : Dimension) → AcceptsAllOfKnown d d
@@ -132,6 +166,21 @@ whole {a} {k} p =
     four (wraparound.containsInterval (a .x) (k .x)) (interval.containsInterval (a .y) (k .y)) (dimensionsContain (a .z) (k .z)) (dimensionsContain (a .m) (k .m))
     (p .x) (p .y .holds) (p .z) (p .m)
 
+-- ---- a box handed on contains what it contained
+plus-known-contains : (d k : Dimension) → dimensionsContain d k ≡ true → dimensionsContain (plusZeroWhereKnown d) k ≡ true
+unfolding testKnown
+plus-known-contains Missing k h = refl
+plus-known-contains (Known i) Missing h = refl
+plus-known-contains (Known i) (Known j) h = plain.plus-contains i (record { holds = h }) .holds
+
+pub plus-contains : {a k : BoundingBox} → Parts a k → Parts (plusZero a) k
+plus-contains {a} {k} p = record {
+  x = alike.x-contains-alike (alike.plus-same (a .x .inner)) (alike.itself (k .x .inner)) ∙ p .x;
+  y = plain.plus-contains (a .y) (p .y);
+  z = plus-known-contains (a .z) (k .z) (p .z);
+  m = plus-known-contains (a .m) (k .m) (p .m);
+}
+
 -- ---- where no x wraps and the other's is not empty, a box contains what it contains in the Rust
 pub contains-as-the-rust : (a b : BoundingBox) → wraparound.isWraparound (a .x) ≡ false → wraparound.isWraparound (b .x) ≡ false → wraparound.isEmpty (b .x) ≡ false
     → contains a b
@@ -149,13 +198,12 @@ merge-dimensions-contain (Known i) (Known j) (Known l) h =
     ⊎-elim (λ a. plain.merge-contains-left j (record { holds = a }) .holds) (λ b. plain.merge-contains-right i (record { holds = b }) .holds) h
 
 pub merge-contains : {a b k : BoundingBox} → Doubles a → Doubles b → Parts a k ⊎ Parts b k → Parts (mergeBox a b) k
-unfolding mergeBox
-merge-contains {a} {b} {k} D E h = record {
+merge-contains {a} {b} {k} D E h = rw (merge-is a b) (record {
   x = containing.merge-contains (D .x) (E .x) (k .x) (⊎-elim (λ p. inl (p .x)) (λ p. inr (p .x)) h);
   y = ⊎-elim (λ p. plain.merge-contains-left (b .y) (p .y)) (λ p. plain.merge-contains-right (a .y) (p .y)) h;
   z = merge-dimensions-contain (a .z) (b .z) (k .z) (⊎-elim (λ p. inl (p .z)) (λ p. inr (p .z)) h);
   m = merge-dimensions-contain (a .m) (b .m) (k .m) (⊎-elim (λ p. inl (p .m)) (λ p. inr (p .m)) h);
-}
+})
 
 -- ---- an intersection keeps what both contain, where x runs straight and what is contained runs low to high
 abbrev pub LowToHighWhereKnown : Dimension → Type 0
@@ -177,12 +225,26 @@ intersect-dimensions-contain (Known i) (Known j) (Known o) l h g = containing.in
 
 -- it is never refused
 abbrev pub met : BoundingBox → BoundingBox → BoundingBox
-met a b =
-    xyzm (wraparound.fromInterval (interval.intersection (a .x .inner) (b .x .inner))) (interval.intersection (a .y) (b .y)) (intersectDimensions (a .z) (b .z)) (intersectDimensions (a .m) (b .m))
+met a b = record {
+  x = wraparound.fromInterval (interval.intersection (a .x .inner) (b .x .inner));
+  y = interval.intersection (a .y) (b .y);
+  z = intersectDimensions (a .z) (b .z);
+  m = intersectDimensions (a .m) (b .m);
+}
 
-pub intersection-accepted : {a b : BoundingBox} → Doubles a → Doubles b → Straight (a .x) → Straight (b .x) → intersection a b ≡ accepted (met a b)
+met-canonical : (a b : BoundingBox) → Canonical (met a b)
+met-canonical a b = record {
+  x = canonical.from-interval-canonical (interval.intersection (a .x .inner) (b .x .inner));
+  y = canonical.intersection-canonical (a .y) (b .y);
+  z = canonical.intersect-dimensions-canonical (a .z) (b .z);
+  m = canonical.intersect-dimensions-canonical (a .m) (b .m);
+}
+
+pub intersection-accepted : {a b : BoundingBox} → Doubles a → Doubles b → Straight (a .x) → Straight (b .x) → intersection a b ≡ record { number = 0; bounds = met a b }
 unfolding intersection withX
-intersection-accepted {a} {b} D E s t = rw (containing.intersection-plain (a .x) (b .x) (containing.straight-plain (D .x) s) (containing.straight-plain (E .x) t))
+intersection-accepted {a} {b} D E s t =
+    rw (containing.intersection-plain (a .x) (b .x) (containing.straight-plain (D .x) s) (containing.straight-plain (E .x) t))
+    (ap (λ (c : BoundingBox). accepted c) (stays-box (met-canonical a b)) ∙ accepted-is (met-canonical a b))
 
 pub intersection-contains : {a b k : BoundingBox} → Doubles a → Doubles b → Doubles k → Straight (a .x) → Straight (b .x) → LowToHigh k → Parts a k → Parts b k → Parts (met a b) k
 intersection-contains {a} {b} {k} D E F s t l p q = record {

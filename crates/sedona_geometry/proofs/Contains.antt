@@ -9,15 +9,17 @@ use lib.Ieee.Fits.{and-l, and-r, and-i}
 use Rattle.sedona_geometry.specs.Float as float
 use Rattle.sedona_geometry.specs.Interval as interval
 use Rattle.sedona_geometry.specs.Interval.{Doubles}
-use Rattle.sedona_geometry.specs.WraparoundInterval.{Accepts, fromInterval, isEmpty, isWraparound, split, piecesContain, containsInterval, containsOneByOne, mergeInterval, mergeNonEmpty, intersection}
+use Rattle.sedona_geometry.specs.WraparoundInterval.{Accepts, fromInterval, plusZero, isEmpty, isWraparound, split, piecesContain, containsInterval, containsOneByOne, mergeInterval, mergeNonEmpty, intersection}
 use Rattle.sedona_geometry.specs.declared.interval.Interval.{Interval}
 use Rattle.sedona_geometry.specs.declared.interval.WraparoundInterval.{WraparoundInterval}
 use Rattle.sedona_geometry.specs.declared.interval.Intersection.{Intersection}
 use Rattle.sedona_geometry.proofs.Order.{Number, Le, holds, fails, is-true, is-false, or-left, or-right, or-cases, le-of-eq, le-of-not-lt, le-refl, le-trans, le-number, lt-not-le}
 use Rattle.sedona_geometry.proofs.MinMax.{min-le-left, min-le-right, min-greatest, min-fits, max-ge-left, max-ge-right, max-least, max-fits}
+use Rattle.sedona_geometry.proofs.PlusZero.{plus-le-plus, of-plus-le, of-le-plus}
+use Rattle.sedona_geometry.proofs.Alike.{plus-same, empty-alike, contains-alike, pieces-contain-alike}
 use Rattle.sedona_geometry.proofs.Rounding.{sub-number}
 use Rattle.sedona_geometry.proofs.Accepts as plain
-use Rattle.sedona_geometry.proofs.Accepts.{Contains, inside, contains, non-empty-solid}
+use Rattle.sedona_geometry.proofs.Accepts.{Contains, inside, new-contains, non-empty-solid}
 use Rattle.sedona_geometry.proofs.Wrapping.{Within, split-plain, low-to-high-plain, empty-not-wrapped, empty-is-empty, plain-within, within-plain, merge-within, plain-of-accepts, accepts-of-plain, none-accepted, infinite-doubles}
 
 low-to-high-not-empty : {x : WraparoundInterval} → Doubles (x .inner) → Le (x .inner .lo) (x .inner .hi) → isEmpty x ≡ false
@@ -94,7 +96,12 @@ module _ {x y : WraparoundInterval} (D : Doubles (x .inner)) (E : Doubles (y .in
 contains-one-piece : (x k : WraparoundInterval) → isWraparound k ≡ false → containsInterval x k ≡ piecesContain (split x) (k .inner)
 unfolding containsInterval
 contains-one-piece x k u =
-    rw (split-plain k u, is-true (piecesContain (split x) interval.empty) (in-piece x interval.empty (inl empty-is-empty))) (and-true (piecesContain (split x) (k .inner)))
+    rw (
+      split-plain k u,
+      pieces-contain-alike (split x) (plus-same (k .inner)),
+      is-true (piecesContain (split x) interval.empty) (in-piece x interval.empty (inl empty-is-empty)),
+    )
+    (and-true (piecesContain (split x) (k .inner)))
 
 -- ---- where neither wraps and the other is not empty, it is `contains_interval` of the two intervals, end by end
 pub contains-plain : (x k : WraparoundInterval) → isWraparound x ≡ false → isWraparound k ≡ false → isEmpty k ≡ false
@@ -107,10 +114,16 @@ contains-plain x k w u n = contains-one-piece x k u ∙ go (interval.containsInt
         is-false (piecesContain (split x) (k .inner)) (λ h.
         ⊎-elim (λ a. fails n (holds a)) (λ i. fails e (holds (within-plain (non-empty-solid n) w i .holds))) (piece-in x (k .inner) h))
 
+empty-contains-itself : interval.containsInterval interval.empty interval.empty ≡ true
+unfolding interval.containsInterval le
+empty-contains-itself = refl
+
 one-by-one-plain : (x k : WraparoundInterval) → isWraparound x ≡ false → isWraparound k ≡ false
     → containsOneByOne x k ≡ interval.containsInterval (x .inner) (k .inner)
-unfolding containsOneByOne interval.containsInterval le
-one-by-one-plain x k w u = rw (split-plain x w, split-plain k u) (and-true (interval.containsInterval (x .inner) (k .inner)))
+unfolding containsOneByOne
+one-by-one-plain x k w u =
+    rw (split-plain x w, split-plain k u, contains-alike (plus-same (x .inner)) (plus-same (k .inner)), empty-contains-itself)
+    (and-true (interval.containsInterval (x .inner) (k .inner)))
 
 -- so there it is the Rust's
 pub contains-as-the-rust : (x k : WraparoundInterval) → isWraparound x ≡ false → isWraparound k ≡ false → isEmpty k ≡ false → containsInterval x k ≡ containsOneByOne x k
@@ -131,11 +144,11 @@ straight-plain {x} D (empty e) = empty-not-wrapped x e
 straight-plain D (ordered h) = low-to-high-plain D h
 
 -- ---- merging x that run straight
-merge-empty : (x y : WraparoundInterval) → isEmpty x ≡ true → mergeInterval x y ≡ y
+merge-empty : (x y : WraparoundInterval) → isEmpty x ≡ true → mergeInterval x y ≡ plusZero y
 unfolding mergeInterval
 merge-empty x y e = rw e
 
-merge-with-empty : (x y : WraparoundInterval) → isEmpty x ≡ false → isEmpty y ≡ true → mergeInterval x y ≡ x
+merge-with-empty : (x y : WraparoundInterval) → isEmpty x ≡ false → isEmpty y ≡ true → mergeInterval x y ≡ plusZero x
 unfolding mergeInterval
 merge-with-empty x y e f = rw (e, f)
 
@@ -147,10 +160,14 @@ merge-ordered D E h k = rw (low-to-high-not-empty D h, low-to-high-not-empty E k
 merge-low-to-high : {i : Interval} (j : Interval) → Le (i .lo) (i .hi) → Le (interval.mergeInterval i j .lo) (interval.mergeInterval i j .hi)
 merge-low-to-high j h = plain.contains-low-to-high (plain.merge-contains-left j (plain.contains-itself (le-number h .0) (le-number h .1))) h
 
+plus-straight : {x : WraparoundInterval} → Straight x → Straight (plusZero x)
+plus-straight {x} (empty e) = empty (empty-alike (plus-same (x .inner)) ∙ e)
+plus-straight (ordered h) = ordered (plus-le-plus h)
+
 pub merge-straight : {x y : WraparoundInterval} → Doubles (x .inner) → Doubles (y .inner) → Straight x → Straight y → Straight (mergeInterval x y)
-merge-straight {x} {y} D E (empty e) s = rw (merge-empty x y e) s
-merge-straight {x} {y} D E (ordered h) (empty f) = rw (merge-with-empty x y (low-to-high-not-empty D h) f) (ordered h)
-merge-straight {x} {y} D E (ordered h) (ordered k) = rw (merge-ordered D E h k) (ordered (merge-low-to-high (y .inner) h))
+merge-straight {x} {y} D E (empty e) s = rw (merge-empty x y e) (plus-straight s)
+merge-straight {x} {y} D E (ordered h) (empty f) = rw (merge-with-empty x y (low-to-high-not-empty D h) f) (ordered (plus-le-plus h))
+merge-straight {x} {y} D E (ordered h) (ordered k) = rw (merge-ordered D E h k) (ordered (plus-le-plus (merge-low-to-high (y .inner) h)))
 
 -- ---- intersections
 ordered-is : {lo hi : Float} → Le lo hi → interval.ordered lo hi ≡ interval.new lo hi
@@ -169,10 +186,10 @@ ordered-straight {lo} {hi} L H = go (lt hi lo) refl
   where
     go : (b : Bool) → lt hi lo ≡ b → Straight (fromInterval (cond b interval.empty (interval.new lo hi)))
     go true e = empty refl
-    go false e = ordered (le-of-not-lt H L (λ k. fails e (k .test)))
+    go false e = ordered (plus-le-plus (plus-le-plus (le-of-not-lt H L (λ k. fails e (k .test)))))
 
-ordered-doubles : {lo hi : Float} → Doubles (interval.new lo hi) → Doubles (interval.ordered lo hi)
-ordered-doubles {lo} {hi} D = go (lt hi lo)
+ordered-doubles : (lo hi : Float) → Doubles (interval.new lo hi) → Doubles (interval.ordered lo hi)
+ordered-doubles lo hi D = go (lt hi lo)
   where
     go : (b : Bool) → Doubles (cond b interval.empty (interval.new lo hi))
     go true = infinite-doubles false true
@@ -181,7 +198,9 @@ ordered-doubles {lo} {hi} D = go (lt hi lo)
 pub intersection-doubles : {i j : Interval} → Doubles i → Doubles j → Doubles (interval.intersection i j)
 unfolding interval.intersection
 intersection-doubles {i} {j} D E =
-    ordered-doubles (record { lo = max-fits binary64 (i .lo) (j .lo) (D .lo) (E .lo); hi = min-fits binary64 (i .hi) (j .hi) (D .hi) (E .hi) })
+    let lo = float.maxNum (i .lo) (j .lo) in
+    let hi = float.minNum (i .hi) (j .hi) in
+    ordered-doubles lo hi (plain.new-doubles lo hi (max-fits binary64 (i .lo) (j .lo) (D .lo) (E .lo)) (min-fits binary64 (i .hi) (j .hi) (D .hi) (E .hi)))
 
 -- what both contain, their intersection contains
 pub intersection-contains : {i j k : Interval} → Le (k .lo) (k .hi) → Contains i k → Contains j k → Contains (interval.intersection i j) k
@@ -189,7 +208,7 @@ unfolding interval.intersection
 intersection-contains o a b =
     let l = max-least (inside a .0) (inside b .0) in
     let u = min-greatest (inside a .1) (inside b .1) in
-    rw (ordered-is (le-trans l (le-trans o u))) (contains l u)
+    rw (ordered-is (le-trans l (le-trans o u))) (new-contains l u)
 
 -- Of low-to-high intervals it accepts exactly what both accept.
 module _ {i j : Interval} (h : Le (i .lo) (i .hi)) (k : Le (j .lo) (j .hi)) where
@@ -197,14 +216,16 @@ module _ {i j : Interval} (h : Le (i .lo) (i .hi)) (k : Le (j .lo) (j .hi)) wher
   unfolding interval.intersection
   intersection-accepts = (
     λ a.
-        let c = plain.between (ordered-accepts (float.maxNum (i .lo) (j .lo)) (float.minNum (i .hi) (j .hi)) a) in (
-          plain.accepts (le-trans (max-ge-left (j .lo) (le-refl (le-number h .0))) (c .0)) (le-trans (c .1) (min-le-left (j .hi) (le-refl (le-number h .1)))),
-          plain.accepts (le-trans (max-ge-right (i .lo) (le-refl (le-number k .0))) (c .0)) (le-trans (c .1) (min-le-right (i .hi) (le-refl (le-number k .1)))),
+        let c = plain.between (ordered-accepts (float.maxNum (i .lo) (j .lo)) (float.minNum (i .hi) (j .hi)) a) in
+        let l = of-plus-le (c .0) in
+        let u = of-le-plus (c .1) in (
+          plain.accepts (le-trans (max-ge-left (j .lo) (le-refl (le-number h .0))) l) (le-trans u (min-le-left (j .hi) (le-refl (le-number h .1)))),
+          plain.accepts (le-trans (max-ge-right (i .lo) (le-refl (le-number k .0))) l) (le-trans u (min-le-right (i .hi) (le-refl (le-number k .1)))),
         ),
     λ b.
         let l = max-least (plain.between (b .0) .0) (plain.between (b .1) .0) in
         let u = min-greatest (plain.between (b .0) .1) (plain.between (b .1) .1) in
-        rw (ordered-is (le-trans l u)) (plain.accepts l u),
+        rw (ordered-is (le-trans l u)) (plain.new-accepts l u),
   )
 
 pub intersection-straight : {i : Interval} (j : Interval) → Number (i .lo) → Number (i .hi) → Straight (fromInterval (interval.intersection i j))
@@ -224,11 +245,12 @@ straight-accepts D s = (λ h. plain-of-accepts (straight-plain D s) h, λ h. acc
 pub x-intersection-accepts : {x y : WraparoundInterval} {v : Float} → Doubles (x .inner) → Doubles (y .inner) → Le (x .inner .lo) (x .inner .hi) → Le (y .inner .lo) (y .inner .hi)
     → Accepts (fromInterval (interval.intersection (x .inner) (y .inner))) v ↔ (Accepts x v × Accepts y v)
 x-intersection-accepts {x} {y} D E h k =
-    let z = straight-accepts (intersection-doubles D E) (intersection-straight (y .inner) (le-number h .0) (le-number h .1)) in
+    let i = interval.intersection (x .inner) (y .inner) in
+    let z = straight-accepts (plain.plus-doubles (intersection-doubles D E)) (intersection-straight (y .inner) (le-number h .0) (le-number h .1)) in
     let a = straight-accepts D (ordered h) in
     let b = straight-accepts E (ordered k) in
     let c = intersection-accepts h k in
-    (λ p. let q = c .0 (z .0 p) in (a .1 (q .0), b .1 (q .1)), λ p. z .1 (c .1 (a .0 (p .0), b .0 (p .1))))
+    (λ p. let q = c .0 (plain.of-plus-accepts i (z .0 p)) in (a .1 (q .0), b .1 (q .1)), λ p. z .1 (plain.plus-accepts i (c .1 (a .0 (p .0), b .0 (p .1)))))
 
 pub straight-numbers : {x : WraparoundInterval} → Straight x → Number (x .inner .lo) × Number (x .inner .hi)
 unfolding interval.isEmpty
@@ -244,5 +266,5 @@ x-intersection-contains {x} {y} {k} D E F s t l p q =
     let a = contains-low-to-high x k F (straight-plain D s) l in
     let b = contains-low-to-high y k F (straight-plain E t) l in
     let n = straight-numbers s in
-    contains-low-to-high (fromInterval (interval.intersection (x .inner) (y .inner))) k F (straight-plain (intersection-doubles D E) (intersection-straight (y .inner) (n .0) (n .1))) l
-    ∙ intersection-contains l (record { holds = sym a ∙ p }) (record { holds = sym b ∙ q }) .holds
+    contains-low-to-high (fromInterval (interval.intersection (x .inner) (y .inner))) k F (straight-plain (plain.plus-doubles (intersection-doubles D E)) (intersection-straight (y .inner) (n .0) (n .1))) l
+    ∙ plain.plus-contains (interval.intersection (x .inner) (y .inner)) (intersection-contains l (record { holds = sym a ∙ p }) (record { holds = sym b ∙ q })) .holds

@@ -1,21 +1,28 @@
 -- The hypotheses of the laws can be met: by a wrapped x, one that crosses its end, one with NaN and a value between its ends, and by two boxes
--- around a third. And what an x contains is computed. Assumes nothing.
-use mathlib.Core.Path.{_≡_, refl}
+-- around a third. And what an x contains, and what calls give of −0, is computed. Assumes nothing.
+use mathlib.Core.Path.{_≡_, refl, ap}
 use mathlib.Core.Bool.{Bool, true, false, _&&_}
 use mathlib.Core.List.{List, [], _∷_}
 use mathlib.Core.Logic.{inl, inr}
-use Prim.Native.Nat.{ℕ}
+use Prim.Native.Nat.{ℕ, _^_}
 use lib.IntN.{pos}
 use lib.Dec.{T}
-use lib.Ieee.{Float, nan, binary64, fits, sub, neg, lt, le, eq, isNan, round, ofInt, ofBits}
+use lib.Ieee.{Float, nan, inf, fin, binary64, fits, add, sub, div, neg, sum, lt, le, eq, isNan, round, ofInt, ofBits, toBits}
 use Rattle.sedona_geometry.specs.Float as float
 use Rattle.sedona_geometry.specs.Interval as interval
 use Rattle.sedona_geometry.specs.WraparoundInterval as wraparound
-use Rattle.sedona_geometry.specs.BoundingBox.{xyzm, testKnown, dimensionsContain, intersects, contains, mergeBox, Doubles, NoLess, Common}
+use Rattle.sedona_geometry.specs.BoundingBox.{xyzm, testKnown, dimensionsContain, intersects, contains, mergeBox, Doubles, EqualNumbers, bits, NoLess, Common}
+use Rattle.sedona_geometry.specs.declared.interval.Interval.{Interval}
 use Rattle.sedona_geometry.specs.declared.interval.WraparoundInterval.{WraparoundInterval}
+use Rattle.sedona_geometry.specs.declared.interval.Conversion.{Conversion}
+use Rattle.sedona_geometry.specs.declared.interval.Intersection.{Intersection}
 use Rattle.sedona_geometry.specs.declared.bounding_box.Dimension.the-variants.{Missing, Known}
 use Rattle.sedona_geometry.specs.declared.bounding_box.BoundingBox.{BoundingBox}
 use Rattle.sedona_geometry.proofs.Order.{Number, Lt, holds, fails, number-of-test}
+use Rattle.sedona_geometry.proofs.PlusZero.{zeros}
+use Rattle.sedona_geometry.proofs.Alike.{same-itself, boxes-merge-alike}
+use Rattle.sedona_geometry.proofs.Canonical.{xyzm-canonical}
+use Rattle.sedona_geometry.proofs.Keys.{same-bits}
 use Rattle.sedona_geometry.proofs.Wrapping as wrapping
 use Rattle.sedona_geometry.proofs.Contains.{Straight, ordered, one-by-one-contains, merge-contains, x-intersection-accepts}
 use Rattle.sedona_geometry.proofs.Boxes as boxes
@@ -79,6 +86,10 @@ pub number-kept : wraparound.Accepts (wraparound.mergeValue wrapped value) (comm
 number-kept = wrapping.merge-value-keeps value wrapped-doubles value-fits (common-x .left)
 
 -- ---- what an x contains, as request 5 has it: computed
+abbrev All : {A : Type 0} → (A → Type 0) → List A → Type 0
+All P [] = Unit {0}
+All P (c ∷ cs) = P c × All P cs
+
 abbrev Answers : WraparoundInterval → List (WraparoundInterval × Bool) → Type 0
 Answers x [] = Unit {0}
 Answers x ((k, b) ∷ ks) = (wraparound.containsInterval x k ≡ b) × Answers x ks
@@ -217,3 +228,91 @@ met-contains = boxes.intersection-contains a-doubles b-doubles k-doubles a-strai
 pub met-accepts : wraparound.Accepts (met a b .x) (common .x .number)
 unfolding lt le eq round ofInt
 met-accepts = x-intersection-accepts (a-doubles .x) (b-doubles .x) (record { test = tt }) (record { test = tt }) .1 (common .x .left, common .x .right)
+
+-- ---- request 6: −0, as a caller fills it in, and what calls give of it
+abbrev minusZero : Float
+minusZero = fin true 0 (pos 0)
+
+-- it is the double with the sign's bit alone, and the one that `isMinusZero` names
+pub minus-zero-bits : (toBits binary64 minusZero ≡ 2 ^ 63) × (ofBits binary64 (2 ^ 63) ≡ minusZero) × (float.isMinusZero minusZero ≡ true)
+unfolding toBits ofBits
+minus-zero-bits = (refl, refl, refl)
+
+abbrev pub signed : Interval
+signed = record { lo = minusZero; hi = minusZero }
+
+abbrev pub unsigned : Interval
+unsigned = record { lo = float.zero; hi = float.zero }
+
+abbrev pub signed-x : WraparoundInterval
+signed-x = record { inner = signed }
+
+abbrev pub unsigned-x : WraparoundInterval
+unsigned-x = record { inner = unsigned }
+
+-- −0 is no +0 as data, so what follows says something
+pub they-differ : signed ≡ unsigned → ⊥
+they-differ e = fails (ap (λ (i : Interval). float.isMinusZero (i .lo)) e) tt
+
+-- every zero that a call gives of it is +0: computed
+pub plus-zeros : All (λ (c : Interval × Interval). c .0 ≡ c .1) (
+    -- made, handed on by an expansion that changes nothing, expanded by −0
+    (interval.new minusZero minusZero, unsigned) ∷
+    (interval.expandBy signed nan, unsigned) ∷
+    (interval.expandBy signed minusZero, unsigned) ∷
+    -- merged, in either order, and with a value; what both hold
+    (interval.mergeInterval signed unsigned, unsigned) ∷
+    (interval.mergeInterval unsigned signed, unsigned) ∷
+    (interval.mergeValue signed minusZero, unsigned) ∷
+    (interval.mergeValue (record { lo = nan; hi = nan }) minusZero, unsigned) ∷
+    (interval.intersection signed signed, unsigned) ∷
+    -- an x made, made of an interval, merged with an empty one on either side, with a value that it accepts, and with NaN
+    (wraparound.new minusZero minusZero .inner, unsigned) ∷
+    (wraparound.fromInterval signed .inner, unsigned) ∷
+    (wraparound.mergeInterval wraparound.empty signed-x .inner, unsigned) ∷
+    (wraparound.mergeInterval signed-x wraparound.empty .inner, unsigned) ∷
+    (wraparound.mergeInterval signed-x signed-x .inner, unsigned) ∷
+    (wraparound.mergeValue signed-x minusZero .inner, unsigned) ∷
+    (wraparound.mergeValue signed-x nan .inner, unsigned) ∷
+    (wraparound.expandBy signed-x nan .inner, unsigned) ∷
+    -- its piece, and those of a wrapped one
+    (wraparound.split signed-x .left, unsigned) ∷
+    (wraparound.split (record { inner = record { lo = plus 1; hi = minusZero } }) .left, record { lo = inf true; hi = float.zero }) ∷
+    (wraparound.split (record { inner = record { lo = minusZero; hi = minus 1 } }) .right, record { lo = float.zero; hi = inf false }) ∷
+    [])
+unfolding add sub div neg sum round lt le eq isNan ofInt float.minNum float.maxNum interval.intersectsValue interval.isEmpty interval.isUnmovedBy interval.expandBy interval.mergeInterval interval.mergeValue interval.intersection wraparound.isWraparound wraparound.split wraparound.intersectsValue wraparound.mergeNonEmpty wraparound.mergeInterval wraparound.mergeValue wraparound.expandBy
+plus-zeros = (refl, (refl, (refl, (refl, (refl, (refl, (refl, (refl, (refl, (refl, (refl, (refl, (refl, (refl, (refl, (refl, (refl, (refl, (refl, tt)))))))))))))))))))
+
+pub plus-zero-converted : wraparound.tryIntoInterval signed-x ≡ Conversion.Plain unsigned
+unfolding sub neg sum round lt eq interval.isEmpty wraparound.isWraparound wraparound.tryIntoInterval
+plus-zero-converted = refl
+
+-- what a wrapped x holds of another that wraps at −0 as well
+pub plus-zero-met : wraparound.intersection (record { inner = record { lo = plus 1; hi = minusZero } }) (record { inner = record { lo = plus 1; hi = minusZero } }) ≡ Intersection.Single (record { inner = record { lo = plus 1; hi = float.zero } })
+unfolding sub neg sum round lt le eq isNan ofInt float.minNum float.maxNum interval.isEmpty interval.intersectsInterval interval.mergeInterval wraparound.isWraparound wraparound.intersectWrapped wraparound.intersection
+plus-zero-met = refl
+
+-- two boxes of the same numbers: made of −0, and of +0. They are canonical, so they are one, and have the same bits
+abbrev of-minus : BoundingBox
+of-minus = xyzm signed-x signed (Known signed) Missing
+
+abbrev of-plus : BoundingBox
+of-plus = xyzm unsigned-x unsigned (Known unsigned) Missing
+
+zeros-double : {a : BoundingBox} → a ≡ of-plus → Doubles a
+unfolding fits
+zeros-double e = rw e (record { x = record { lo = tt; hi = tt }; y = record { lo = tt; hi = tt }; z = record { lo = tt; hi = tt }; m = tt })
+
+equal-numbers : EqualNumbers of-minus of-plus
+unfolding eq
+equal-numbers = record { x = record { lo = refl; hi = refl }; y = record { lo = refl; hi = refl }; z = record { lo = refl; hi = refl }; m = tt }
+
+pub one-key : bits of-minus ≡ bits of-plus
+one-key = same-bits (zeros-double refl) (zeros-double refl) (xyzm-canonical signed-x signed (Known signed) Missing) (xyzm-canonical unsigned-x unsigned (Known unsigned) Missing) equal-numbers
+
+-- and a call that is lent −0 does what it does of +0
+pub merged-alike : mergeBox (record { x = signed-x; y = signed; z = Known signed; m = Missing }) a ≡ mergeBox (record { x = unsigned-x; y = unsigned; z = Known unsigned; m = Missing }) a
+merged-alike =
+    boxes-merge-alike
+    (record { x = record { lo = zeros; hi = zeros }; y = record { lo = zeros; hi = zeros }; z = record { lo = zeros; hi = zeros }; m = tt })
+    (same-itself a)

@@ -1,11 +1,16 @@
 pub mod Accepts
+pub mod Alike
 pub mod Bits
 pub mod Boxes
+pub mod Canonical
 pub mod Contains
+pub mod Exact
 pub mod Instances
+pub mod Keys
 pub mod Kind
 pub mod MinMax
 pub mod Order
+pub mod PlusZero
 pub mod Rounding
 pub mod Says
 pub mod Sign

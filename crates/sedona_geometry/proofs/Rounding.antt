@@ -93,7 +93,7 @@ unfolding neg
 neg-le-zero h = le-trans (neg-le h) minus-zeros
 
 module _ (f : Format) (c : ℕ) (C : 0 < c) where
-  round-zero : (s : Bool) → round f s 0 c ≡ fin s 0 (pos 0)
+  pub round-zero : (s : Bool) → round f s 0 c ≡ fin s 0 (pos 0)
   round-zero s = round-same f s 0 c 0 1 C (omega arith) (zero-mul 1 ∙ sym (zero-mul c)) ∙ none f s
 
   round-le-mono : (a b : ℕ) → a ≤ b → Le (round f false a c) (round f false b c)
@@ -215,7 +215,7 @@ module _ (f : Format) (c : ℕ) (C : 0 < c) where
       go false b = round-gt f c C (gap p n) (a-unit p n l (omega arith))
 
 -- ---- the difference of any finite values
-positive : (e d : ℤ) → 0 < down e * down d
+pub positive : (e d : ℤ) → 0 < down e * down d
 positive e d = mul-pos (down-pos e) (down-pos d)
 
 -- a sum of x / d and y / g, and of the two exchanged, over u and v times their denominators
@@ -288,11 +288,11 @@ record Units (f : Format) (s : Bool) (m : ℕ) (e : ℤ) : Type 0 where
 pow-cancel : (i j : ℕ) → 2 ^ i ≤ 2 ^ j → i ≤ j
 pow-cancel i j h = elim (ℕ-le-or-lt i j) [ inl a ↦ a | inr b ↦ absurd (not-le-of-lt (pow-lt b) h) ]
 
-abbrev factor : Format → ℤ → ℕ
+abbrev pub factor : Format → ℤ → ℕ
 factor f (pos k) = 2 ^ low f
 factor f (negsuc k) = 2 ^ (low f - suc k)
 
-factor-mul : (f : Format) (e : ℤ) → down e ≤ 2 ^ low f → 2 ^ low f ≡ factor f e * down e
+pub factor-mul : (f : Format) (e : ℤ) → down e ≤ 2 ^ low f → 2 ^ low f ≡ factor f e * down e
 factor-mul f (pos k) h = sym (mul-one (2 ^ low f))
 factor-mul f (negsuc k) h = sym (sym (pow-add 2 (low f - suc k) (suc k)) ∙ ap (λ (x : ℕ). 2 ^ x) (back (low f) (suc k) (pow-cancel (suc k) (low f) h)))
 
@@ -300,7 +300,7 @@ alone : (e : ℤ) → up e * down e ≡ 1 → down e ≤ 1
 alone (pos k) h = omega arith
 alone (negsuc k) h = ℕ-le-of-eq (sym (one-mul (2 ^ suc k)) ∙ h)
 
-fits-down : (f : Format) (s : Bool) (m : ℕ) (e : ℤ) → T (fits f (fin s m e)) → down e ≤ 2 ^ low f
+pub fits-down : (f : Format) (s : Bool) (m : ℕ) (e : ℤ) → T (fits f (fin s m e)) → down e ≤ 2 ^ low f
 unfolding fits
 fits-down f s zero e h = ℕ-le-trans (alone e (eqb→eq (up e * down e) 1 h)) (pow-pos (low f))
 fits-down f s (suc m) e h =

@@ -1,5 +1,5 @@
 -- What an x accepts, and what lies inside its pieces, wrapped or not: nothing is lost by merging. Assumes nothing.
-use mathlib.Core.Path.{_≡_, refl, sym, subst}
+use mathlib.Core.Path.{_≡_, refl, sym, subst, _∙_}
 use mathlib.Core.Logic.{_⊎_, inl, inr, ⊎-elim}
 use mathlib.Core.Bool.{Bool, true, false, not, _||_, cond}
 use lib.Dec.{T, not-T, T-not}
@@ -8,15 +8,17 @@ use lib.Ieee.Fits.{and-l, and-r, and-i, inf-fits}
 use Rattle.sedona_geometry.specs.Float as float
 use Rattle.sedona_geometry.specs.Interval as interval
 use Rattle.sedona_geometry.specs.Interval.{Doubles}
-use Rattle.sedona_geometry.specs.WraparoundInterval.{Accepts, fromInterval, new, full, isEmpty, isWraparound, wrappedPieces, split, intersectsValue, piecesIntersect, intersectsInterval, fromPieces, mergeWrapped, nearerLeft, mergePlain, mergeNonEmpty, mergeInterval, moveEnd, mergeValue}
+use Rattle.sedona_geometry.specs.WraparoundInterval.{Accepts, fromInterval, new, plusZero, full, isEmpty, isWraparound, wrappedPieces, split, intersectsValue, piecesIntersect, intersectsInterval, fromPieces, mergeWrapped, nearerLeft, mergePlain, mergeNonEmpty, mergeInterval, moveEnd, mergeValue}
 use Rattle.sedona_geometry.specs.declared.interval.Interval.{Interval}
 use Rattle.sedona_geometry.specs.declared.interval.WraparoundInterval.{WraparoundInterval}
 use Rattle.sedona_geometry.specs.declared.interval.Pieces.{Pieces}
 use Rattle.sedona_geometry.proofs.Order.{Number, infinite, Le, Lt, holds, fails, is-true, is-false, or-left, or-right, or-cases, le-of-lt, le-of-not-lt, le-refl, le-trans, le-number, lt-number, lt-of-not-le, bottom, top, eq-inf, below-bottom, top-not-bottom, number-of-test, number-test}
 use Rattle.sedona_geometry.proofs.MinMax.{min-le-left, max-ge-left}
 use Rattle.sedona_geometry.proofs.Rounding.{sub-not-neg, sub-neg, sub-pos, lt-of-sub-neg, sub-wider}
+use Rattle.sedona_geometry.proofs.PlusZero.{same, plus-le, le-plus, plus-le-plus, of-plus-le, of-le-plus, plus-lt-plus}
+use Rattle.sedona_geometry.proofs.Alike.{plus-same, split-alike, x-accepts-alike}
 use Rattle.sedona_geometry.proofs.Accepts as plain
-use Rattle.sedona_geometry.proofs.Accepts.{Contains, inside, contains, merge-contains-left, merge-contains-right, Solid}
+use Rattle.sedona_geometry.proofs.Accepts.{Contains, inside, contains, new-contains, merge-contains-left, merge-contains-right, Solid}
 
 -- ---- which x wrap
 pub wrapped-not-empty : (x : WraparoundInterval) → isWraparound x ≡ true → T (isEmpty x) → ⊥
@@ -49,7 +51,7 @@ pub split-wrapped : (x : WraparoundInterval) → isWraparound x ≡ true → spl
 unfolding split
 split-wrapped x w = rw w
 
-pub split-plain : (x : WraparoundInterval) → isWraparound x ≡ false → split x ≡ record { left = x .inner; right = interval.empty }
+pub split-plain : (x : WraparoundInterval) → isWraparound x ≡ false → split x ≡ record { left = interval.plusZero (x .inner); right = interval.empty }
 unfolding split
 split-plain x w = rw w
 
@@ -77,11 +79,11 @@ pub none-accepted : {v : Float} → interval.Accepts interval.empty v → ⊥
 none-accepted h = top-not-bottom (below-bottom (le-trans (plain.between h .0) (plain.between h .1)))
 
 pub plain-of-accepts : {x : WraparoundInterval} {v : Float} → isWraparound x ≡ false → Accepts x v → interval.Accepts (x .inner) v
-plain-of-accepts {x} {v} w h = ⊎-elim (λ a. a) (λ b. absurd (none-accepted b)) (subst (λ p. interval.Accepts (p .left) v ⊎ interval.Accepts (p .right) v) (split-plain x w) (accepts-cases h))
+plain-of-accepts {x} {v} w h = ⊎-elim (λ a. plain.of-plus-accepts (x .inner) a) (λ b. absurd (none-accepted b)) (subst (λ p. interval.Accepts (p .left) v ⊎ interval.Accepts (p .right) v) (split-plain x w) (accepts-cases h))
 
 pub accepts-of-plain : {x : WraparoundInterval} {v : Float} → Doubles (x .inner) → interval.Accepts (x .inner) v → Accepts x v
 accepts-of-plain {x} {v} D h =
-    accepts-left (subst (λ p. interval.Accepts (p .left) v) (sym (split-plain x (low-to-high-plain D (plain.accepts-low-to-high h)))) h)
+    accepts-left (subst (λ p. interval.Accepts (p .left) v) (sym (split-plain x (low-to-high-plain D (plain.accepts-low-to-high h)))) (plain.plus-accepts (x .inner) h))
 
 pub infinite-doubles : (s t : Bool) → Doubles (interval.new (inf s) (inf t))
 infinite-doubles s t = record { lo = inf-fits binary64 s; hi = inf-fits binary64 t }
@@ -94,21 +96,21 @@ empty-accepts-nothing {x} D e h = plain.empty-accepts-nothing D e (plain-of-acce
 
 -- ---- a wrapped x accepts what lies up to hi and from lo on
 pub wrapped-accepts-left : {x : WraparoundInterval} {v : Float} → isWraparound x ≡ true → Le v (x .inner .hi) → Accepts x v
-wrapped-accepts-left {x} {v} w h = accepts-left (subst (λ p. interval.Accepts (p .left) v) (sym (split-wrapped x w)) (plain.accepts (bottom (le-number h .0)) h))
+wrapped-accepts-left {x} {v} w h = accepts-left (subst (λ p. interval.Accepts (p .left) v) (sym (split-wrapped x w)) (plain.new-accepts (bottom (le-number h .0)) h))
 
 pub wrapped-accepts-right : {x : WraparoundInterval} {v : Float} → isWraparound x ≡ true → Le (x .inner .lo) v → Accepts x v
-wrapped-accepts-right {x} {v} w h = accepts-right (subst (λ p. interval.Accepts (p .right) v) (sym (split-wrapped x w)) (plain.accepts h (top (le-number h .1))))
+wrapped-accepts-right {x} {v} w h = accepts-right (subst (λ p. interval.Accepts (p .right) v) (sym (split-wrapped x w)) (plain.new-accepts h (top (le-number h .1))))
 
 pub wrapped-cases : {x : WraparoundInterval} {v : Float} → isWraparound x ≡ true → Accepts x v → Le v (x .inner .hi) ⊎ Le (x .inner .lo) v
 wrapped-cases {x} {v} w h =
-    ⊎-elim (λ a. inl (plain.between a .1)) (λ b. inr (plain.between b .0)) (subst (λ p. interval.Accepts (p .left) v ⊎ interval.Accepts (p .right) v) (split-wrapped x w) (accepts-cases h))
+    ⊎-elim (λ a. inl (of-le-plus (plain.between a .1))) (λ b. inr (of-plus-le (plain.between b .0))) (subst (λ p. interval.Accepts (p .left) v ⊎ interval.Accepts (p .right) v) (split-wrapped x w) (accepts-cases h))
 
 -- ---- what lies inside some piece
 pub record Within (x : WraparoundInterval) (k : Interval) : Type 0 where
   pub piece : Contains (split x .left) k ⊎ Contains (split x .right) k
 
 pub plain-within : {x : WraparoundInterval} {k : Interval} → isWraparound x ≡ false → Contains (x .inner) k → Within x k
-plain-within {x} {k} w h = record { piece = inl (subst (λ p. Contains (p .left) k) (sym (split-plain x w)) h) }
+plain-within {x} {k} w h = record { piece = inl (subst (λ p. Contains (p .left) k) (sym (split-plain x w)) (plain.plus-contains (x .inner) h)) }
 
 pub empty-is-empty : interval.isEmpty interval.empty ≡ true
 unfolding interval.isEmpty sub eq
@@ -116,8 +118,15 @@ empty-is-empty = refl
 
 pub within-plain : {x : WraparoundInterval} {k : Interval} → Solid k → isWraparound x ≡ false → Within x k → Contains (x .inner) k
 within-plain {x} {k} S w h =
-    ⊎-elim (λ a. a) (λ b. absurd (S .outside (infinite-doubles false true) empty-is-empty b))
+    ⊎-elim (λ a. plain.of-plus-contains (x .inner) a) (λ b. absurd (S .outside (infinite-doubles false true) empty-is-empty b))
     (subst (λ p. Contains (p .left) k ⊎ Contains (p .right) k) (split-plain x w) (h .piece))
+
+-- an x handed on has the same pieces
+plus-within : {x : WraparoundInterval} {k : Interval} → Within x k → Within (plusZero x) k
+plus-within {x} {k} h = record { piece = subst (λ p. Contains (p .left) k ⊎ Contains (p .right) k) (sym (split-alike (plus-same (x .inner)))) (h .piece) }
+
+pub plus-accepts : {x : WraparoundInterval} {v : Float} → Accepts x v → Accepts (plusZero x) v
+plus-accepts {x} h = record { holds = x-accepts-alike {x = plusZero x} {y = x} (plus-same (x .inner)) same ∙ h .holds }
 
 -- a number is accepted where it lies there by itself
 within-of-accepts : {x : WraparoundInterval} {v : Float} → Accepts x v → Within x (interval.new v v)
@@ -148,30 +157,35 @@ from-pieces-within {x} {l} {r} {k} D L R w a h = go (interval.intersectsInterval
         (and-i (le (l .lo) (r .hi)) (le (r .lo) (l .hi)) (le-trans (a .left-lo) (bottom (le-number (a .right-hi) .1)) .test) (k .test)))
 
     pieces : interval.intersectsInterval l r ≡ false → split (new (r .lo) (l .hi)) ≡ wrappedPieces (interval.new (r .lo) (l .hi))
-    pieces e = split-wrapped (new (r .lo) (l .hi)) (wider-wraps D (record { lo = R .lo; hi = L .hi }) w (a .right-lo) (a .left-hi) (apart e))
+    pieces e = split-wrapped (new (r .lo) (l .hi)) (wider-wraps D (plain.new-doubles (r .lo) (l .hi) (R .lo) (L .hi)) w (plus-le (a .right-lo)) (le-plus (a .left-hi)) (plus-lt-plus (apart e)))
 
     go : (b : Bool) → interval.intersectsInterval l r ≡ b → Within (cond b full (new (r .lo) (l .hi))) k
     go true e = plain-within (low-to-high-plain (infinite-doubles true false) (bottom infinite)) (contains (bottom (N .0)) (top (N .1)))
     go false e = record {
-      piece = rw (pieces e) (⊎-elim (λ c. inl (contains (bottom (N .0)) (inside c .1))) (λ c. inr (contains (inside c .0) (top (N .1)))) h);
+      piece =
+          rw (pieces e)
+          (⊎-elim (λ c. inl (new-contains (bottom (N .0)) (le-plus (inside c .1)))) (λ c. inr (new-contains (plus-le (inside c .0)) (top (N .1)))) h);
     }
 
 split-doubles : (x : WraparoundInterval) → Doubles (x .inner) → Doubles (split x .left) × Doubles (split x .right)
 unfolding split
 split-doubles x D = go (isWraparound x)
   where
-    go : (b : Bool) → let p : Pieces = cond b (wrappedPieces (x .inner)) (record { left = x .inner; right = interval.empty }) in Doubles (p .left) × Doubles (p .right)
-    go true = (record { lo = inf-fits binary64 true; hi = D .hi }, record { lo = D .lo; hi = inf-fits binary64 false })
-    go false = (D, infinite-doubles false true)
+    go : (b : Bool) → let p : Pieces = cond b (wrappedPieces (x .inner)) (record { left = interval.plusZero (x .inner); right = interval.empty }) in Doubles (p .left) × Doubles (p .right)
+    go true = (
+      plain.new-doubles (inf true) (x .inner .hi) (inf-fits binary64 true) (D .hi),
+      plain.new-doubles (x .inner .lo) (inf false) (D .lo) (inf-fits binary64 false),
+    )
+    go false = (plain.plus-doubles D, infinite-doubles false true)
 
 -- ---- merging loses nothing
 merge-around-left : (i j : Interval) → Number (i .lo) → Le (interval.mergeInterval i j .lo) (i .lo)
 unfolding interval.mergeInterval
-merge-around-left i j N = min-le-left (j .lo) (le-refl N)
+merge-around-left i j N = plus-le (min-le-left (j .lo) (le-refl N))
 
 merge-around-right : (i j : Interval) → Number (i .hi) → Le (i .hi) (interval.mergeInterval i j .hi)
 unfolding interval.mergeInterval
-merge-around-right i j N = max-ge-left (j .hi) (le-refl N)
+merge-around-right i j N = le-plus (max-ge-left (j .hi) (le-refl N))
 
 module _ (x : WraparoundInterval) (D : Doubles (x .inner)) (w : isWraparound x ≡ true) where
   lo-number : Number (x .inner .lo)
@@ -181,7 +195,7 @@ module _ (x : WraparoundInterval) (D : Doubles (x .inner)) (w : isWraparound x �
   hi-number = lt-number (wrapped-high-to-low D w) .0
 
   around-pieces : Around x (split x .left) (split x .right)
-  around-pieces = rw (split-wrapped x w) (record { left-lo = le-refl infinite; left-hi = le-refl hi-number; right-lo = le-refl lo-number; right-hi = le-refl infinite })
+  around-pieces = rw (split-wrapped x w) (record { left-lo = le-refl infinite; left-hi = le-plus (le-refl hi-number); right-lo = plus-le (le-refl lo-number); right-hi = le-refl infinite })
 
   -- around a piece, around what it is merged with
   around-left : {l r : Interval} (j : Interval) → Around x l r → Around x (interval.mergeInterval l j) r
@@ -242,7 +256,9 @@ module _ {x y : WraparoundInterval} {k : Interval} (D : Doubles (x .inner)) (E :
       let c = within-plain S w h in
       let N = plain.containing-numbers c in
       let l = plain-low-to-high D w (is-false (isEmpty x) (λ e. S .outside D (is-true (isEmpty x) e) c)) (N .0) (N .1) in
-      plain-within (low-to-high-plain E (plain.contains-low-to-high (keep (x .inner) (plain.contains-itself (N .0) (N .1))) l)) (keep k c)
+      plain-within
+      (low-to-high-plain (plain.plus-doubles E) (plain.contains-low-to-high (plain.plus-contains i (keep (x .inner) (plain.contains-itself (N .0) (N .1)))) l))
+      (plain.plus-contains i (keep k c))
 
   merge-non-empty-within : Within x k ⊎ Within y k → Within (mergeNonEmpty x y) k
   unfolding mergeNonEmpty
@@ -263,15 +279,15 @@ module _ {x y : WraparoundInterval} {k : Interval} (D : Doubles (x .inner)) (E :
   unfolding mergeInterval
   merge-within h = go (isEmpty x) (isEmpty y) refl refl
     where
-      go : (a b : Bool) → isEmpty x ≡ a → isEmpty y ≡ b → Within (cond a y (cond b x (mergeNonEmpty x y))) k
-      go true b e f = ⊎-elim (λ a. absurd (S .outside D e (within-plain S (empty-not-wrapped x e) a))) (λ b. b) h
-      go false true e f = ⊎-elim (λ a. a) (λ b. absurd (S .outside E f (within-plain S (empty-not-wrapped y f) b))) h
+      go : (a b : Bool) → isEmpty x ≡ a → isEmpty y ≡ b → Within (cond a (plusZero y) (cond b (plusZero x) (mergeNonEmpty x y))) k
+      go true b e f = ⊎-elim (λ a. absurd (S .outside D e (within-plain S (empty-not-wrapped x e) a))) (λ b. plus-within b) h
+      go false true e f = ⊎-elim (λ a. plus-within a) (λ b. absurd (S .outside E f (within-plain S (empty-not-wrapped y f) b))) h
       go false false e f = merge-non-empty-within h
 
 pub merge-accepts : {x y : WraparoundInterval} {v : Float} → Doubles (x .inner) → Doubles (y .inner) → Accepts x v ⊎ Accepts y v → Accepts (mergeInterval x y) v
-merge-accepts D E h =
+merge-accepts {x} {y} {v} D E h =
     let N = ⊎-elim accepts-number accepts-number h in
-    accepts-of-within (merge-within D E (plain.low-to-high-solid (le-refl N)) (⊎-elim (λ a. inl (within-of-accepts a)) (λ b. inr (within-of-accepts b)) h))
+    accepts-of-within (merge-within D E (plain.low-to-high-solid (plus-le-plus (le-refl N))) (⊎-elim (λ a. inl (within-of-accepts a)) (λ b. inr (within-of-accepts b)) h))
 
 -- ---- merged ends are doubles
 from-pieces-doubles : {l r : Interval} → Doubles l → Doubles r → Doubles (fromPieces l r .inner)
@@ -280,7 +296,7 @@ from-pieces-doubles {l} {r} L R = go (interval.intersectsInterval l r)
   where
     go : (b : Bool) → Doubles (cond b full (new (r .lo) (l .hi)) .inner)
     go true = infinite-doubles true false
-    go false = record { lo = R .lo; hi = L .hi }
+    go false = plain.new-doubles (r .lo) (l .hi) (R .lo) (L .hi)
 
 merge-plain-doubles : {x y : WraparoundInterval} → Doubles (x .inner) → Doubles (y .inner) → Doubles (mergePlain x y .inner)
 unfolding mergePlain
@@ -295,13 +311,13 @@ unfolding mergeInterval mergeNonEmpty mergeWrapped
 merge-doubles {x} {y} D E = go (isEmpty x) (isEmpty y) (isWraparound x) (isWraparound y)
   where
     go : (a b c d : Bool)
-        → Doubles (cond a y (cond b x (cond c (cond d (mergeWrapped x y) (mergePlain x y)) (cond d (mergePlain y x) (fromInterval (interval.mergeInterval (x .inner) (y .inner)))))) .inner)
-    go true b c d = E
-    go false true c d = D
+        → Doubles (cond a (plusZero y) (cond b (plusZero x) (cond c (cond d (mergeWrapped x y) (mergePlain x y)) (cond d (mergePlain y x) (fromInterval (interval.mergeInterval (x .inner) (y .inner)))))) .inner)
+    go true b c d = plain.plus-doubles E
+    go false true c d = plain.plus-doubles D
     go false false true true = from-pieces-doubles (plain.merge-doubles (split-doubles x D .0) (split-doubles y E .0)) (plain.merge-doubles (split-doubles x D .1) (split-doubles y E .1))
     go false false true false = merge-plain-doubles D E
     go false false false true = merge-plain-doubles E D
-    go false false false false = plain.merge-doubles D E
+    go false false false false = plain.plus-doubles (plain.merge-doubles D E)
 
 -- ---- merging a value
 module _ {x : WraparoundInterval} {v : Float} (D : Doubles (x .inner)) (F : T (fits binary64 v)) where
@@ -323,21 +339,21 @@ module _ {x : WraparoundInterval} {v : Float} (D : Doubles (x .inner)) (F : T (f
       b : Lt (x .inner .hi) v × Lt v (x .inner .lo)
       b = between-ends w N n
 
-      same : u ≡ v → Le u v × Le v u
-      same e = subst (λ (z : Float). Le z v × Le v z) (sym e) (le-refl N, le-refl N)
+      alone : u ≡ v → Le u v × Le v u
+      alone e = subst (λ (z : Float). Le z v × Le v z) (sym e) (le-refl N, le-refl N)
 
       go : (t : Bool) → Accepts (cond t (new (x .inner .lo) v) (new v (x .inner .hi))) u
       go true =
-          let w' : isWraparound (new (x .inner .lo) v) ≡ true = wider-wraps D (record { lo = D .lo; hi = F }) w (le-refl (lo-number x D w)) (le-of-lt (b .0)) (b .1) in
+          let w' : isWraparound (new (x .inner .lo) v) ≡ true = wider-wraps D (plain.new-doubles (x .inner .lo) v (D .lo) F) w (plus-le (le-refl (lo-number x D w))) (le-plus (le-of-lt (b .0))) (plus-lt-plus (b .1)) in
           ⊎-elim
-          (λ a. ⊎-elim (λ k. wrapped-accepts-left w' (le-trans k (le-of-lt (b .0)))) (λ k. wrapped-accepts-right w' k) (wrapped-cases w a))
-          (λ e. wrapped-accepts-left w' (same e .0))
+          (λ a. ⊎-elim (λ k. wrapped-accepts-left w' (le-plus (le-trans k (le-of-lt (b .0))))) (λ k. wrapped-accepts-right w' (plus-le k)) (wrapped-cases w a))
+          (λ e. wrapped-accepts-left w' (le-plus (alone e .0)))
           h
       go false =
-          let w' : isWraparound (new v (x .inner .hi)) ≡ true = wider-wraps D (record { lo = F; hi = D .hi }) w (le-of-lt (b .1)) (le-refl (hi-number x D w)) (b .0) in
+          let w' : isWraparound (new v (x .inner .hi)) ≡ true = wider-wraps D (plain.new-doubles v (x .inner .hi) F (D .hi)) w (plus-le (le-of-lt (b .1))) (le-plus (le-refl (hi-number x D w))) (plus-lt-plus (b .0)) in
           ⊎-elim
-          (λ a. ⊎-elim (λ k. wrapped-accepts-left w' k) (λ k. wrapped-accepts-right w' (le-trans (le-of-lt (b .1)) k)) (wrapped-cases w a))
-          (λ e. wrapped-accepts-right w' (same e .1))
+          (λ a. ⊎-elim (λ k. wrapped-accepts-left w' (le-plus k)) (λ k. wrapped-accepts-right w' (plus-le (le-trans (le-of-lt (b .1)) k))) (wrapped-cases w a))
+          (λ e. wrapped-accepts-right w' (plus-le (alone e .1)))
           h
 
   merge-new-value : {u : Float} → Number v → (Accepts x v → ⊥) → Accepts x u ⊎ (u ≡ v)
@@ -347,20 +363,20 @@ module _ {x : WraparoundInterval} {v : Float} (D : Doubles (x .inner)) (F : T (f
       go : (b : Bool) → isWraparound x ≡ b → Accepts (cond (not b) (fromInterval (interval.mergeValue (x .inner) v)) (moveEnd x v)) u
       go true w = move-end-accepts w N n h
       go false w =
-          accepts-of-plain (plain.merge-value-doubles v D F)
-          (⊎-elim
+          accepts-of-plain (plain.plus-doubles (plain.merge-value-doubles v D F))
+          (plain.plus-accepts (interval.mergeValue (x .inner) v) (⊎-elim
           (λ a. plain.merge-value-keeps v (plain-of-accepts w a))
           (λ e. subst (λ (z : Float). interval.Accepts (interval.mergeValue (x .inner) v) z) (sym e) (plain.merge-value-accepts (x .inner) N))
-          h)
+          h))
 
   merge-value-accepts-both : {u : Float} → Accepts x u ⊎ ((u ≡ v) × Number v) → Accepts (mergeValue x v) u
   unfolding mergeValue
   merge-value-accepts-both {u} h = go (intersectsValue x v) (isNan v) refl refl
     where
       go : (a b : Bool) → intersectsValue x v ≡ a → isNan v ≡ b
-          → Accepts (cond (a || b) x (cond (not (isWraparound x)) (fromInterval (interval.mergeValue (x .inner) v)) (moveEnd x v))) u
-      go true b e g = ⊎-elim (λ a. a) (λ k. subst (λ (z : Float). Accepts x z) (sym (k .0)) (record { holds = e })) h
-      go false true e g = ⊎-elim (λ a. a) (λ k. absurd (fails (number-test (k .1)) (holds g))) h
+          → Accepts (cond (a || b) (plusZero x) (cond (not (isWraparound x)) (fromInterval (interval.mergeValue (x .inner) v)) (moveEnd x v))) u
+      go true b e g = plus-accepts (⊎-elim (λ a. a) (λ k. subst (λ (z : Float). Accepts x z) (sym (k .0)) (record { holds = e })) h)
+      go false true e g = ⊎-elim (λ a. plus-accepts a) (λ k. absurd (fails (number-test (k .1)) (holds g))) h
       go false false e g =
           merge-new-value (number-of-test v g) (λ a. fails e (holds (a .holds))) (⊎-elim (λ a. inl a) (λ k. inr (k .0)) h)
 

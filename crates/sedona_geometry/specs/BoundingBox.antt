@@ -1,8 +1,9 @@
 -- `BoundingBox` of bounding_box.rs, method by method. z and m go through one definition a call.
 use mathlib.Core.Bool.{Bool, true, _&&_, _||_, cond}
+use mathlib.Core.List.{List, [], _∷_, _++_}
 use Prim.Native.Nat.{ℕ}
 use lib.Dec.{eqb}
-use lib.Ieee.{Float}
+use lib.Ieee.{Float, binary64, toBits}
 use Rattle.sedona_geometry.specs.Interval as interval
 use Rattle.sedona_geometry.specs.WraparoundInterval as wraparound
 use Rattle.sedona_geometry.specs.declared.interval.Interval.{Interval}
@@ -38,8 +39,17 @@ mergeDimensions d e = joinKnown interval.mergeInterval d e
 abbrev pub intersectDimensions : Dimension → Dimension → Dimension
 intersectDimensions d e = joinKnown interval.intersection d e
 
+-- Where a call hands a dimension on.
+abbrev pub plusZeroWhereKnown : Dimension → Dimension
+plusZeroWhereKnown Missing = Missing
+plusZeroWhereKnown (Known i) = Known (interval.plusZero i)
+
 abbrev pub xyzm : WraparoundInterval → Interval → Dimension → Dimension → BoundingBox
-xyzm x y z m = record { x = x; y = y; z = z; m = m }
+xyzm x y z m = record { x = wraparound.plusZero x; y = interval.plusZero y; z = plusZeroWhereKnown z; m = plusZeroWhereKnown m }
+
+-- Where a call hands a box on.
+abbrev pub plusZero : BoundingBox → BoundingBox
+plusZero a = xyzm (a .x) (a .y) (a .z) (a .m)
 
 abbrev pub xy : WraparoundInterval → Interval → BoundingBox
 xy x y = xyzm x y Missing Missing
@@ -81,7 +91,7 @@ abbrev pub refused : ℕ → NumberedBox
 refused n = record { number = n; bounds = empty }
 
 abbrev pub accepted : BoundingBox → NumberedBox
-accepted a = record { number = 0; bounds = a }
+accepted a = record { number = 0; bounds = plusZero a }
 
 -- The box where the number is 0, and else the number alone.
 unfoldable pub numbered : ℕ → BoundingBox → NumberedBox
@@ -114,6 +124,42 @@ pub record Doubles (a : BoundingBox) : Type 0 where
   pub y : interval.Doubles (a .y)
   pub z : DoublesWhereKnown (a .z)
   pub m : DoublesWhereKnown (a .m)
+
+abbrev pub CanonicalWhereKnown : Dimension → Type 0
+CanonicalWhereKnown Missing = Unit {0}
+CanonicalWhereKnown (Known i) = interval.Canonical i
+
+-- Request 6: no end is −0.
+pub record Canonical (a : BoundingBox) : Type 0 where
+  pub x : interval.Canonical (a .x .inner)
+  pub y : interval.Canonical (a .y)
+  pub z : CanonicalWhereKnown (a .z)
+  pub m : CanonicalWhereKnown (a .m)
+
+-- Both are missing, or both known and equal as numbers.
+abbrev pub EqualWhereKnown : Dimension → Dimension → Type 0
+EqualWhereKnown Missing Missing = Unit {0}
+EqualWhereKnown Missing (Known j) = ⊥
+EqualWhereKnown (Known i) Missing = ⊥
+EqualWhereKnown (Known i) (Known j) = interval.EqualNumbers i j
+
+-- Request 6: "whose known dimensions are equal as numbers". So neither has NaN.
+pub record EqualNumbers (a b : BoundingBox) : Type 0 where
+  pub x : interval.EqualNumbers (a .x .inner) (b .x .inner)
+  pub y : interval.EqualNumbers (a .y) (b .y)
+  pub z : EqualWhereKnown (a .z) (b .z)
+  pub m : EqualWhereKnown (a .m) (b .m)
+
+-- Request 6: the "bytes" of a box, end by end; none of what is missing.
+abbrev pub intervalBits : Interval → List ℕ
+intervalBits i = toBits binary64 (i .lo) ∷ toBits binary64 (i .hi) ∷ []
+
+abbrev pub bitsWhereKnown : Dimension → List ℕ
+bitsWhereKnown Missing = []
+bitsWhereKnown (Known i) = intervalBits i
+
+abbrev pub bits : BoundingBox → List ℕ
+bits a = intervalBits (a .x .inner) ++ intervalBits (a .y) ++ bitsWhereKnown (a .z) ++ bitsWhereKnown (a .m)
 
 -- j accepts every number that i accepts.
 abbrev pub AcceptsAllOf : Interval → Interval → Type 0

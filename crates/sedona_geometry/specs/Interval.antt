@@ -11,12 +11,27 @@ pub record Doubles (i : Interval) : Type 0 where
   pub lo : T (fits binary64 (i .lo))
   pub hi : T (fits binary64 (i .hi))
 
+-- Request 6: neither end is −0.
+pub record Canonical (i : Interval) : Type 0 where
+  pub lo : float.isMinusZero (i .lo) ≡ false
+  pub hi : float.isMinusZero (i .hi) ≡ false
+
+-- Equal as numbers, end by end. A NaN is equal to nothing.
+pub record EqualNumbers (i j : Interval) : Type 0 where
+  pub lo : eq (i .lo) (j .lo) ≡ true
+  pub hi : eq (i .hi) (j .hi) ≡ true
+
 -- 01's "having NaN": at either end.
 abbrev pub hasNan : Interval → Bool
 hasNan i = isNan (i .lo) || isNan (i .hi)
 
+-- Every interval that a call gives is made here.
 abbrev pub new : Float → Float → Interval
-new lo hi = record { lo = lo; hi = hi }
+new lo hi = record { lo = float.plusZero lo; hi = float.plusZero hi }
+
+-- Where a call hands an interval on.
+abbrev pub plusZero : Interval → Interval
+plusZero i = new (i .lo) (i .hi)
 
 abbrev pub empty : Interval
 empty = new (inf false) (inf true)
@@ -71,7 +86,7 @@ unfoldable pub isUnmovedBy : Interval → Float → Bool
 isUnmovedBy i d = isEmpty i || isNan d || lt d float.zero
 
 unfoldable pub expandBy : Interval → Float → Interval
-expandBy i d = cond (isUnmovedBy i d) i (new (sub binary64 (i .lo) d) (add binary64 (i .hi) d))
+expandBy i d = cond (isUnmovedBy i d) (plusZero i) (new (sub binary64 (i .lo) d) (add binary64 (i .hi) d))
 
 -- The interval from lo to hi, empty where hi is below lo.
 abbrev pub ordered : Float → Float → Interval

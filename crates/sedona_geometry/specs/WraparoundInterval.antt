@@ -12,11 +12,15 @@ use Rattle.sedona_geometry.specs.declared.interval.Pieces.{Pieces}
 use Rattle.sedona_geometry.specs.declared.interval.Conversion.{Conversion}
 use Rattle.sedona_geometry.specs.declared.interval.Intersection.{Intersection}
 
-abbrev pub fromInterval : Interval → WraparoundInterval
-fromInterval i = record { inner = i }
-
 abbrev pub new : Float → Float → WraparoundInterval
-new lo hi = fromInterval (interval.new lo hi)
+new lo hi = record { inner = interval.new lo hi }
+
+abbrev pub fromInterval : Interval → WraparoundInterval
+fromInterval i = new (i .lo) (i .hi)
+
+-- Where a call hands an x on.
+abbrev pub plusZero : WraparoundInterval → WraparoundInterval
+plusZero x = fromInterval (x .inner)
 
 abbrev pub empty : WraparoundInterval
 empty = fromInterval interval.empty
@@ -36,14 +40,14 @@ isWraparound x = not (isEmpty x) && lt (interval.width (x .inner)) float.zero
 
 -- A wrapped x is refused with 2.
 unfoldable pub tryIntoInterval : WraparoundInterval → Conversion
-tryIntoInterval x = cond (isWraparound x) (Conversion.Refused error.wrapped) (Conversion.Plain (x .inner))
+tryIntoInterval x = cond (isWraparound x) (Conversion.Refused error.wrapped) (Conversion.Plain (interval.plusZero (x .inner)))
 
 -- The pieces of a wrapped x: (−inf, hi) and (lo, inf).
 abbrev pub wrappedPieces : Interval → Pieces
 wrappedPieces i = record { left = interval.new (inf true) (i .hi); right = interval.new (i .lo) (inf false) }
 
 unfoldable pub split : WraparoundInterval → Pieces
-split x = cond (isWraparound x) (wrappedPieces (x .inner)) (record { left = x .inner; right = interval.empty })
+split x = cond (isWraparound x) (wrappedPieces (x .inner)) (record { left = interval.plusZero (x .inner); right = interval.empty })
 
 -- The x accepts the value: one of its pieces does.
 unfoldable pub intersectsValue : WraparoundInterval → Float → Bool
@@ -114,9 +118,9 @@ mergeNonEmpty x y =
     (cond (isWraparound y) (mergeWrapped x y) (mergePlain x y))
     (cond (isWraparound y) (mergePlain y x) (fromInterval (interval.mergeInterval (x .inner) (y .inner))))
 
--- An empty operand yields the other as it is.
+-- An empty operand yields the other.
 unfoldable pub mergeInterval : WraparoundInterval → WraparoundInterval → WraparoundInterval
-mergeInterval x y = cond (isEmpty x) y (cond (isEmpty y) x (mergeNonEmpty x y))
+mergeInterval x y = cond (isEmpty x) (plusZero y) (cond (isEmpty y) (plusZero x) (mergeNonEmpty x y))
 
 -- A wrapped x moves the end that is nearer the value, at a tie lo.
 unfoldable pub moveEnd : WraparoundInterval → Float → WraparoundInterval
@@ -125,7 +129,7 @@ moveEnd x v =
 
 unfoldable pub mergeValue : WraparoundInterval → Float → WraparoundInterval
 mergeValue x v =
-    cond (intersectsValue x v || isNan v) x
+    cond (intersectsValue x v || isNan v) (plusZero x)
     (cond (not (isWraparound x)) (fromInterval (interval.mergeValue (x .inner) v)) (moveEnd x v))
 
 -- The x that leaves out what lies between lo and hi; full where nothing does.
@@ -134,7 +138,7 @@ excluding lo hi = cond (le hi lo) full (new hi lo)
 
 unfoldable pub expandBy : WraparoundInterval → Float → WraparoundInterval
 expandBy x d =
-    cond (interval.isUnmovedBy (x .inner) d) x
+    cond (interval.isUnmovedBy (x .inner) d) (plusZero x)
     (cond (not (isWraparound x)) (fromInterval (interval.expandBy (x .inner) d))
     (excluding (add binary64 (x .inner .hi) d) (sub binary64 (x .inner .lo) d)))
 

@@ -13,6 +13,16 @@ pub enum Dimension {
 }
 
 impl Dimension {
+    // Handed on.
+    fn plus_zero(self) -> Dimension
+        ensures { λ r. ⌜ r ≡ boundingBox.plusZeroWhereKnown self ⌝ }
+    {
+        let Dimension::Known(i) = self else {
+            return Dimension::Missing;
+        };
+        Dimension::Known(i.plus_zero())
+    }
+
     // Whether two that are known intersect; true where one is missing.
     pub fn intersects(self, other: Dimension) -> bool
         ensures { λ r. ⌜ r ≡ boundingBox.dimensionsIntersect self other ⌝ }
@@ -94,7 +104,10 @@ impl NumberedBox {
     pub fn accepted(bounds: BoundingBox) -> NumberedBox
         ensures { λ r. ⌜ r ≡ boundingBox.accepted bounds ⌝ }
     {
-        NumberedBox { number: 0, bounds }
+        NumberedBox {
+            number: 0,
+            bounds: bounds.plus_zero(),
+        }
     }
 }
 
@@ -109,7 +122,21 @@ impl BoundingBox {
     pub fn xyzm(x: WraparoundInterval, y: Interval, z: Dimension, m: Dimension) -> BoundingBox
         ensures { λ r. ⌜ r ≡ boundingBox.xyzm x y z m ⌝ }
     {
-        BoundingBox { x, y, z, m }
+        BoundingBox {
+            x: x.plus_zero(),
+            y: y.plus_zero(),
+            z: z.plus_zero(),
+            m: m.plus_zero(),
+        }
+    }
+
+    // Handed on.
+    fn plus_zero(self) -> BoundingBox
+        ensures { λ r. ⌜ r ≡ boundingBox.plusZero self ⌝ }
+    {
+        let z = self.z;
+        let m = self.m;
+        BoundingBox::xyzm(self.x, self.y, z, m)
     }
 
     // A box of empty x and y.

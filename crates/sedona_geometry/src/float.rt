@@ -1,32 +1,40 @@
-// What Rust's standard library gives interval.rs: least, greatest, absolute value and infinity.
+// What Rust's standard library gives interval.rs: least, greatest, absolute value and infinity; and
+// +0 for zero.
 ghost use mathlib.Core.Path.{_≡_};
 ghost use mathlib.Core.Bool.{false};
 ghost use lib.Ieee.{inf};
 ghost use Rattle.sedona_geometry.specs.Float as float;
 
-// The smaller of two numbers. A NaN is passed over.
+// +0 for −0, and else the number as it is: so IEEE 754 adds +0.
+pub(crate) fn plus_zero(v: f64) -> f64
+    ensures { λ r. ⌜ r ≡ float.plusZero v ⌝ }
+{
+    v + 0.0
+}
+
+// The smaller of two numbers, a zero as +0. A NaN is passed over.
 pub fn min(a: f64, b: f64) -> f64
     ensures { λ r. ⌜ r ≡ float.minNum a b ⌝ }
 {
     if a != a {
-        b
+        plus_zero(b)
     } else if b < a {
-        b
+        plus_zero(b)
     } else {
-        a
+        plus_zero(a)
     }
 }
 
-// The greater of two numbers. A NaN is passed over.
+// The greater of two numbers, a zero as +0. A NaN is passed over.
 pub fn max(a: f64, b: f64) -> f64
     ensures { λ r. ⌜ r ≡ float.maxNum a b ⌝ }
 {
     if a != a {
-        b
+        plus_zero(b)
     } else if a < b {
-        b
+        plus_zero(b)
     } else {
-        a
+        plus_zero(a)
     }
 }
 

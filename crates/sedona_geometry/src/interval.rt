@@ -1,5 +1,6 @@
 // Intervals in one dimension, plain and wrapping around, after interval.rs.
-// Every interval is made by `new`, `empty` or `full`.
+// Every interval is made by `new`, `empty` or `full`, and so has +0 for zero. One whose fields the
+// caller filled may have -0: it is read as 0.
 ghost use mathlib.Core.Path.{_≡_};
 ghost use mathlib.Core.Bool.{Bool};
 ghost use Rattle.sedona_geometry.specs.Interval as interval;
@@ -10,6 +11,7 @@ use crate::float::abs;
 use crate::float::infinity;
 use crate::float::max;
 use crate::float::min;
+use crate::float::plus_zero;
 
 // The numbers from lo to hi, both ends among them. It never wraps around.
 pub struct Interval {
@@ -21,7 +23,17 @@ impl Interval {
     pub fn new(lo: f64, hi: f64) -> Interval
         ensures { λ r. ⌜ r ≡ interval.new lo hi ⌝ }
     {
-        Interval { lo, hi }
+        Interval {
+            lo: plus_zero(lo),
+            hi: plus_zero(hi),
+        }
+    }
+
+    // Handed on.
+    pub(crate) fn plus_zero(self) -> Interval
+        ensures { λ r. ⌜ r ≡ interval.plusZero self ⌝ }
+    {
+        Interval::new(self.lo, self.hi)
     }
 
     // Accepts no value.
@@ -106,7 +118,7 @@ impl Interval {
         ensures { λ r. ⌜ r ≡ interval.expandBy self distance ⌝ }
     {
         if self.is_unmoved_by(distance) {
-            return self;
+            return self.plus_zero();
         }
         Interval::new(self.lo - distance, self.hi + distance)
     }
@@ -182,7 +194,9 @@ impl WraparoundInterval {
     pub fn new(lo: f64, hi: f64) -> WraparoundInterval
         ensures { λ r. ⌜ r ≡ wraparound.new lo hi ⌝ }
     {
-        WraparoundInterval::from_interval(Interval::new(lo, hi))
+        WraparoundInterval {
+            inner: Interval::new(lo, hi),
+        }
     }
 
     // Accepts no value.
@@ -202,7 +216,14 @@ impl WraparoundInterval {
     pub fn from_interval(inner: Interval) -> WraparoundInterval
         ensures { λ r. ⌜ r ≡ wraparound.fromInterval inner ⌝ }
     {
-        WraparoundInterval { inner }
+        WraparoundInterval::new(inner.lo, inner.hi)
+    }
+
+    // Handed on.
+    pub(crate) fn plus_zero(self) -> WraparoundInterval
+        ensures { λ r. ⌜ r ≡ wraparound.plusZero self ⌝ }
+    {
+        WraparoundInterval::from_interval(self.inner)
     }
 
     // The plain interval with the same ends; a wrapped x is refused with 2.
@@ -213,7 +234,7 @@ impl WraparoundInterval {
         if self.is_wraparound() {
             Conversion::Refused(WRAPPED)
         } else {
-            Conversion::Plain(inner)
+            Conversion::Plain(inner.plus_zero())
         }
     }
 
@@ -229,7 +250,7 @@ impl WraparoundInterval {
             }
         } else {
             Pieces {
-                left: inner,
+                left: inner.plus_zero(),
                 right: Interval::empty(),
             }
         }
@@ -302,15 +323,15 @@ impl WraparoundInterval {
         self.inner.is_full()
     }
 
-    // An x around both. An empty one yields the other as it is.
+    // An x around both. An empty one yields the other.
     pub fn merge_interval(self, other: WraparoundInterval) -> WraparoundInterval
         ensures { λ r. ⌜ r ≡ wraparound.mergeInterval self other ⌝ }
     {
         if self.is_empty() {
-            return other;
+            return other.plus_zero();
         }
         if other.is_empty() {
-            return self;
+            return self.plus_zero();
         }
         self.merge_non_empty(other)
     }
@@ -373,7 +394,7 @@ impl WraparoundInterval {
         ensures { λ r. ⌜ r ≡ wraparound.mergeValue self value ⌝ }
     {
         if self.intersects_value(value) || value != value {
-            return self;
+            return self.plus_zero();
         }
         if !self.is_wraparound() {
             return WraparoundInterval::from_interval(self.inner.merge_value(value));
@@ -400,7 +421,7 @@ impl WraparoundInterval {
         ensures { λ r. ⌜ r ≡ wraparound.expandBy self distance ⌝ }
     {
         if self.inner.is_unmoved_by(distance) {
-            return self;
+            return self.plus_zero();
         }
         if !self.is_wraparound() {
             return WraparoundInterval::from_interval(self.inner.expand_by(distance));

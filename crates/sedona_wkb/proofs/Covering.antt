@@ -1,5 +1,5 @@
--- The box accepts every coordinate that is not NaN, and its x never wraps. Assumes nothing.
-use mathlib.Core.Path.{_≡_, refl, sym, subst}
+-- The box accepts every coordinate that is not NaN, its x never wraps, and it has no −0. Assumes nothing.
+use mathlib.Core.Path.{_≡_, refl, sym, subst, _∙_}
 use mathlib.Core.Bool.{Bool, true, false}
 use mathlib.Core.List.{List, [], _∷_}
 use mathlib.Core.Logic.{_⊎_, inl, inr}
@@ -10,10 +10,16 @@ use Rattle.sedona_geometry.specs.Float.{minNum, maxNum}
 use Rattle.sedona_geometry.specs.Interval as interval
 use Rattle.sedona_geometry.specs.Interval.{Doubles, Accepts, mergeValue}
 use Rattle.sedona_geometry.specs.WraparoundInterval as wraparound
-use Rattle.sedona_geometry.specs.declared.bounding_box.Dimension.the-variants.{Known}
+use Rattle.sedona_geometry.specs.BoundingBox.{Canonical, plusZeroWhereKnown}
+use Rattle.sedona_geometry.specs.declared.bounding_box.BoundingBox.{BoundingBox}
+use Rattle.sedona_geometry.specs.declared.bounding_box.Dimension.{Dimension}
+use Rattle.sedona_geometry.specs.declared.bounding_box.Dimension.the-variants.{Missing, Known}
 use Rattle.sedona_geometry.specs.declared.interval.Interval.{Interval}
-use Rattle.sedona_geometry.proofs.Accepts.{merge-value-keeps, merge-value-accepts, merge-value-doubles, accepts-low-to-high}
+use Rattle.sedona_geometry.proofs.Accepts.{merge-value-keeps, merge-value-accepts, merge-value-doubles, accepts-low-to-high, plus-accepts}
+use Rattle.sedona_geometry.proofs.Canonical.{xyzm-canonical, stays-box, refused-canonical, accepted-canonical}
+use Rattle.sedona_geometry.proofs.Alike.{plus-same, wraps-alike}
 use Rattle.sedona_geometry.proofs.Order.{Number, number-of-test, nan-or-number}
+use Rattle.sedona_geometry.proofs.Wrapping as wrapping
 use Rattle.sedona_geometry.proofs.Wrapping.{accepts-of-plain, infinite-doubles, empty-not-wrapped, low-to-high-plain}
 use Rattle.sedona_wkb.specs.Bounds.{knownWhere, boxOf, answer, boxFrom, AcceptsWhere, AcceptsCoordinate}
 use Rattle.sedona_wkb.specs.Extents.{empty, mergeWhere, enter, enterAll}
@@ -102,7 +108,7 @@ empty-is : wraparound.isEmpty wraparound.empty ≡ true
 unfolding interval.isEmpty sub eq
 empty-is = refl
 
-not-wrapped : (i : Interval) → Doubles i → (i ≡ interval.empty) ⊎ ((v : Float) × Accepts i v) → wraparound.isWraparound (wraparound.fromInterval i) ≡ false
+not-wrapped : (i : Interval) → Doubles i → (i ≡ interval.empty) ⊎ ((v : Float) × Accepts i v) → wraparound.isWraparound (record { inner = i }) ≡ false
 not-wrapped i D (inl e) = rw e (empty-not-wrapped wraparound.empty empty-is)
 not-wrapped i D (inr a) = low-to-high-plain D (accepts-low-to-high (a .1))
 
@@ -114,6 +120,12 @@ known-where true i o d h = h
 known-where false i none d h = tt
 known-where false i (some v) d h = absurd d
 
+-- what is handed on accepts what it accepted
+plus-where : (d : Dimension) (o : Option Float) → AcceptsWhere d o → AcceptsWhere (plusZeroWhereKnown d) o
+plus-where d none h = tt
+plus-where Missing (some v) h = absurd h
+plus-where (Known i) (some v) h = λ n. plus-accepts i (h n)
+
 module _ (d : ℕ) (e : Extents) (D : Doubles (e .x)) where
   all-accepted : (cs : List Coordinate) → All (OfDims d) cs
       → All (λ c. AcceptsWhere (Known (e .x)) (some (c .x))) cs → All (λ c. AcceptsWhere (Known (e .y)) (some (c .y))) cs
@@ -123,10 +135,10 @@ module _ (d : ℕ) (e : Extents) (D : Doubles (e .x)) where
   all-accepted [] h x y z m = tt
   all-accepted (c ∷ cs) h x y z m = (
     record {
-      x = λ n. accepts-of-plain D (x .0 n);
-      y = y .0;
-      z = known-where (hasZ d) (e .z) (c .z) (h .0 .z) (z .0);
-      m = known-where (hasM d) (e .m) (c .m) (h .0 .m) (m .0);
+      x = λ n. wrapping.plus-accepts (wrapping.plus-accepts (accepts-of-plain D (x .0 n)));
+      y = λ n. plus-accepts (e .y) (y .0 n);
+      z = plus-where (knownWhere (hasZ d) (e .z)) (c .z) (known-where (hasZ d) (e .z) (c .z) (h .0 .z) (z .0));
+      m = plus-where (knownWhere (hasM d) (e .m)) (c .m) (known-where (hasM d) (e .m) (c .m) (h .0 .m) (m .0));
     },
     all-accepted cs (h .1) (x .1) (y .1) (z .1) (m .1),
   )
@@ -145,7 +157,14 @@ module _ (d : ℕ) (cs : List Coordinate) (h : All (OfDims d) cs) where
 
   box-not-wrapped : wraparound.isWraparound (boxOf d (enterAll empty cs) .x) ≡ false
   unfolding boxOf
-  box-not-wrapped = not-wrapped (enterAll empty cs .x) (plain-x .doubles) (plain-x .filled)
+  box-not-wrapped =
+      let i = enterAll empty cs .x in
+      wraps-alike (plus-same (interval.plusZero i)) ∙ wraps-alike (plus-same i) ∙ not-wrapped i (plain-x .doubles) (plain-x .filled)
+
+-- handed on, it stays
+box-of-canonical : (d : ℕ) (e : Extents) → Canonical (boxOf d e)
+unfolding boxOf
+box-of-canonical d e = xyzm-canonical (wraparound.fromInterval (e .x)) (e .y) (knownWhere (hasZ d) (e .z)) (knownWhere (hasM d) (e .m))
 
 -- ---- the theorems
 
@@ -154,12 +173,23 @@ pub accepts-every-coordinate : (s : List ℕ) (p : Spelled) (t : List ℕ) → s
 unfolding answer
 accepts-every-coordinate s p t e =
     subst (λ (r : Reading Spelled). All (AcceptsCoordinate (answer r .numbered .bounds)) (p .coordinates)) (sym e)
-    (box-accepts (p .dims) (p .coordinates) (rw e at (spelled-only s)))
+    (rw (stays-box (box-of-canonical (p .dims) (enterAll empty (p .coordinates)))) (box-accepts (p .dims) (p .coordinates) (rw e at (spelled-only s))))
+
+-- Request 6: whatever the bytes, the box has no −0.
+answer-canonical : (r : Reading Spelled) → Canonical (answer r .numbered .bounds)
+unfolding answer
+answer-canonical (refused n) = refused-canonical n
+answer-canonical (found p t) = accepted-canonical (boxOf (p .dims) (enterAll empty (p .coordinates)))
+
+pub wkb-bounds-canonical : (s : List ℕ) → Canonical (boxFrom s)
+wkb-bounds-canonical s = answer-canonical (spelled s)
 
 answer-not-wrapped : (r : Reading Spelled) → Only SpelledWell r → wraparound.isWraparound (answer r .numbered .bounds .x) ≡ false
 unfolding answer
 answer-not-wrapped (refused n) h = empty-not-wrapped wraparound.empty empty-is
-answer-not-wrapped (found p t) h = box-not-wrapped (p .dims) (p .coordinates) h
+answer-not-wrapped (found p t) h =
+    subst (λ (b : BoundingBox). wraparound.isWraparound (b .x) ≡ false) (sym (stays-box (box-of-canonical (p .dims) (enterAll empty (p .coordinates)))))
+    (box-not-wrapped (p .dims) (p .coordinates) h)
 
 -- "x never wrapping": whatever the bytes.
 pub x-never-wraps : (s : List ℕ) → wraparound.isWraparound (boxFrom s .x) ≡ false

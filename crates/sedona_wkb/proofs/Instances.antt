@@ -1,20 +1,24 @@
 -- Geometries that meet every hypothesis of the theorems, and bytes. Assumes nothing.
-use mathlib.Core.Path.{_≡_, refl}
+use mathlib.Core.Path.{_≡_, refl, ap}
 use mathlib.Core.Bool.{true, false, not}
 use mathlib.Core.List.{List, [], _∷_, _++_, flatMap}
 use mathlib.Core.Option.{none, some}
 use Prim.Native.Nat.{ℕ, _^_}
 use native.Mathlib.Omega.{arith}
 use lib.Dec.{T}
-use lib.Ieee.{Float, fin, binary64, fits, ofBits, ofFields, odd}
+use lib.Ieee.{Float, fin, binary64, fits, isNan, lt, ofBits, ofFields, odd}
 use lib.IntN.{pos}
 use lib.ListN.{take, replicate}
+use Rattle.sedona_geometry.specs.Float as float
+use Rattle.sedona_geometry.specs.Interval as interval
 use Rattle.sedona_geometry.specs.Types as types
-use Rattle.sedona_wkb.specs.Bounds.{typesOf, refusal, answer, wkbBounds, boxFrom, AcceptsCoordinate}
+use Rattle.sedona_geometry.specs.declared.bounding_box.Dimension.the-variants.{Missing}
+use Rattle.sedona_wkb.specs.Extents.{mergeWhere, enter, enterAll}
+use Rattle.sedona_wkb.specs.Bounds.{knownWhere, boxOf, typesOf, refusal, answer, wkbBounds, boxFrom, AcceptsCoordinate}
 use Rattle.sedona_wkb.specs.Geometry.{point, lineString, polygon, Geometry, one, many, collection, nil, cons, coordinatesOf, coordinates, depth, kindOfShape, kindOf, OfDims, All, Orders, encodeNumber, encodeDouble, encodeWhere, encodeCoordinate, encodeFrom, encodeCounted, encodeContent, encodeHead, encodeOne, encode, Writable}
 use Rattle.sedona_wkb.specs.Numbers.{valueOf, bytesOf, ordered}
-use Rattle.sedona_wkb.specs.Reading.{found, andThen, number, several}
-use Rattle.sedona_wkb.specs.Wkb.{Coordinate, isType, isPart, tested, readHead, readPartHead, readDouble, readWhere, readCoordinate, counted, readPoint, readOne, within, byKind, readBody, ended, readRest, spelled}
+use Rattle.sedona_wkb.specs.Reading.{Reading, found, andThen, number, several}
+use Rattle.sedona_wkb.specs.Wkb.{Coordinate, Spelled, isType, isPart, tested, readHead, readPartHead, readDouble, readWhere, readCoordinate, counted, readPoint, readOne, within, byKind, readBody, ended, readRest, spelled}
 use Rattle.sedona_wkb.proofs.ThereAndBack.{asSpelled, there-and-back, either-order, accepts-every-written}
 
 -- An odd number, as a double is written.
@@ -111,6 +115,23 @@ probe-read = refl
 pub probe-type : wkbBounds probe .types ≡ types.fromBits (2 ^ 17)
 unfolding answer typesOf kindOf kindOfShape
 probe-type = rw probe-read
+
+-- POINT (-0 1), low byte first: the box has +0.
+abbrev signed : List ℕ
+signed = 1 ∷ 1 ∷ 0 ∷ 0 ∷ 0 ∷ 0 ∷ 0 ∷ 0 ∷ 0 ∷ 0 ∷ 0 ∷ 0 ∷ 128 ∷ 0 ∷ 0 ∷ 0 ∷ 0 ∷ 0 ∷ 0 ∷ 240 ∷ 63 ∷ []
+
+signed-read : spelled signed ≡ found (asSpelled 0 (one point (record { x = fin true 0 (pos 0); y = num 1; z = none; m = none }))) []
+unfolding spelled readHead readRest ended readBody byKind readOne readPoint readCoordinate readDouble readWhere number ordered valueOf andThen tested isType ofBits ofFields odd coordinates coordinatesOf kindOf kindOfShape
+signed-read = refl
+
+pub signed-box : boxFrom signed ≡ record {
+  x = record { inner = record { lo = fin false 0 (pos 0); hi = fin false 0 (pos 0) } };
+  y = record { lo = num 1; hi = num 1 };
+  z = Missing;
+  m = Missing;
+}
+unfolding answer boxOf knownWhere enterAll enter mergeWhere interval.mergeValue float.minNum float.maxNum isNan lt coordinates coordinatesOf
+signed-box = ap (λ (r : Reading Spelled). answer r .numbered .bounds) signed-read
 
 -- So many collections, each of one part, low byte first; and a MultiPoint of one.
 abbrev nested : ℕ → List ℕ

@@ -2,6 +2,7 @@
 
 use crate::cases::Case;
 use crate::layout::Record;
+use oracle::answer::plus_zero;
 use oracle::random::Random;
 use std::panic::{self, AssertUnwindSafe};
 
@@ -27,6 +28,12 @@ impl Answer {
     pub fn number(number: u32) -> Answer {
         let written = Record::NONE;
         Answer { number, written }
+    }
+
+    /// With +0 for zero, as the Rust's answers of intervals are compared.
+    pub fn plus_zero(mut self) -> Answer {
+        self.written.doubles = self.written.doubles.map(plus_zero);
+        self
     }
 
     /// The number 0, and what is written.
@@ -87,6 +94,8 @@ pub struct Call<C> {
     library: Box<dyn Fn(&C) -> Given>,
     rust: Box<dyn Fn(&C) -> Expected>,
     counts: [u64; NUMBERS],
+    /// How many -0 were in what the library gave.
+    minus_zeros: u64,
 }
 
 impl<C: Case> Call<C> {
@@ -102,6 +111,7 @@ impl<C: Case> Call<C> {
             library: Box::new(library),
             rust: Box::new(rust),
             counts: [0; NUMBERS],
+            minus_zeros: 0,
         }
     }
 
@@ -113,6 +123,9 @@ impl<C: Case> Call<C> {
         let rust = match expected {
             Ok(expected) if given.is(&expected) => {
                 self.counts[given.number as usize] += 1;
+                if expected.is_ok() {
+                    self.minus_zeros += given.after.minus_zeros();
+                }
                 return Ok(());
             }
             Ok(Ok(answer)) => format!("number {}{}", answer.number, answer.written),
@@ -147,6 +160,9 @@ pub trait Group {
 
     /// A line for each call.
     fn table(&self) -> String;
+
+    /// How many -0 were in what the library gave.
+    fn minus_zeros(&self) -> u64;
 }
 
 impl<C: Case> Group for Vec<Call<C>> {
@@ -158,5 +174,9 @@ impl<C: Case> Group for Vec<Call<C>> {
 
     fn table(&self) -> String {
         self.iter().map(Call::line).collect()
+    }
+
+    fn minus_zeros(&self) -> u64 {
+        self.iter().map(|call| call.minus_zeros).sum()
     }
 }

@@ -48,7 +48,7 @@ fn alone<I: IntervalTrait, L: Value + 'static, R: Value>(
         name,
         L::WORDS,
         move |case: &IntervalCase| library(case.a).answer().into(),
-        move |case| Ok(rust(&to_rust(case.a)).answer()),
+        move |case| Ok(rust(&to_rust(case.a)).answer().plus_zero()),
     )
 }
 
@@ -62,7 +62,7 @@ fn with_value<I: IntervalTrait, L: Value + 'static, R: Value>(
         name,
         L::WORDS,
         move |case: &IntervalCase| library(case.a, case.value).answer().into(),
-        move |case| Ok(rust(&to_rust(case.a), case.value).answer()),
+        move |case| Ok(rust(&to_rust(case.a), case.value).answer().plus_zero()),
     )
 }
 
@@ -76,7 +76,11 @@ fn with_other<I: IntervalTrait, L: Value + 'static, R: Value>(
         name,
         L::WORDS,
         move |case: &IntervalCase| library(case.a, case.b).answer().into(),
-        move |case| Ok(rust(&to_rust(case.a), &to_rust(case.b)).answer()),
+        move |case| {
+            Ok(rust(&to_rust(case.a), &to_rust(case.b))
+                .answer()
+                .plus_zero())
+        },
     )
 }
 
@@ -91,7 +95,7 @@ fn x_intersection() -> Call<IntervalCase> {
             })
         },
         |case| match to_rust::<X>(case.a).intersection(&to_rust(case.b)) {
-            Ok(both) => Ok(both.answer()),
+            Ok(both) => Ok(both.answer().plus_zero()),
             Err(_) => Err(TWO_PARTS),
         },
     )

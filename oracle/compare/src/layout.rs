@@ -1,6 +1,7 @@
 //! Boxes and records as they cross the boundary, and their way to the Rust's and back.
 
 use johikape::Interval;
+use oracle::answer::plus_zero;
 use oracle::bounding_box::BoundingBox;
 use oracle::filters::bounds;
 use oracle::interval::IntervalTrait;
@@ -53,14 +54,15 @@ impl Bounds {
         is_good.then(|| bounds(&self.ends, self.flags))
     }
 
-    /// What is missing is 0.
+    /// With +0 for zero; what is missing is 0.
     pub fn of(rust: &BoundingBox) -> Bounds {
         let z = rust.z().map_or([0.0; 2], |z| [z.lo(), z.hi()]);
         let m = rust.m().map_or([0.0; 2], |m| [m.lo(), m.hi()]);
         let flag = |is_known, flag| if is_known { flag } else { 0 };
         let (x, y) = (rust.x(), rust.y());
+        let ends = [x.lo(), x.hi(), y.lo(), y.hi(), z[0], z[1], m[0], m[1]];
         Bounds {
-            ends: [x.lo(), x.hi(), y.lo(), y.hi(), z[0], z[1], m[0], m[1]],
+            ends: ends.map(plus_zero),
             flags: BOX | flag(rust.z().is_some(), Z) | flag(rust.m().is_some(), M),
         }
     }
@@ -93,12 +95,12 @@ impl Array {
         count: PATTERN as usize,
     };
 
-    /// Behind the array is 0.
+    /// With +0 for zero; behind the array is 0.
     pub fn of(array: &[f64]) -> Array {
         let mut numbers = [0.0; 6];
         numbers[..array.len()].copy_from_slice(array);
         Array {
-            numbers,
+            numbers: numbers.map(plus_zero),
             count: array.len(),
         }
     }
@@ -206,9 +208,18 @@ impl Record {
         self.agrees(other, |a, b| a.to_bits() == b.to_bits())
     }
 
-    /// Whether all is the same but for what is left open, a zero's sign and a NaN's bits.
+    /// Whether all is the same but for what is left open, a NaN's bits.
     pub fn is_alike(&self, other: &Record) -> bool {
-        self.agrees(other, |a, b| a == b || a.is_nan() && b.is_nan())
+        self.agrees(other, |a, b| {
+            a.to_bits() == b.to_bits() || a.is_nan() && b.is_nan()
+        })
+    }
+
+    /// How many ends of intervals, or numbers of an array, are -0. The last two doubles are extents.
+    pub fn minus_zeros(&self) -> u64 {
+        let ends = &self.doubles[..8];
+        let minus = |end: &&f64| **end == 0.0 && end.is_sign_negative();
+        ends.iter().filter(minus).count() as u64
     }
 
     fn agrees(&self, other: &Record, are_same: fn(f64, f64) -> bool) -> bool {

@@ -81,5 +81,8 @@ fn compare(seed: u64, count: u64) -> Result<String, String> {
         made += more.map_err(|case| format!("seed {seed}, after {made} calls: {case}"))?;
     }
     let table: String = groups.iter().map(|group| group.table()).collect();
-    Ok(format!("{table}{made} calls agree (seed {seed})\n"))
+    let minus_zeros: u64 = groups.iter().map(|group| group.minus_zeros()).sum();
+    Ok(format!(
+        "{table}{minus_zeros} of the ends and numbers given are -0\n{made} calls agree (seed {seed})\n"
+    ))
 }

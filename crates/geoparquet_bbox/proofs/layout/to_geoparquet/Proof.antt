@@ -10,7 +10,13 @@ returns c = rw (← c .before .before .box-refusal .ensures, ne-eqb _ _ (c .befo
 
 returns-2 : tie.Need-returns-2
 unfolding toGeoparquet
-returns-2 c = rw (← c .before .before .before .box-refusal .ensures, eq-eqb _ _ (c .before .before .if1 .left), c .laid-out .ensures)
+returns-2 c = 
+    rw (
+      ← c .before .before .before .before .box-refusal .ensures,
+      eq-eqb _ _ (c .before .before .before .if1 .left),
+      c .laid-out .ensures,
+      c .before .before .xyzm .ensures,
+    )
 
 pub to-geoparquet-spec : {M : Type 1} → statement M
-to-geoparquet-spec = tie.close (tie.spec (λ c κs. tt) (λ c κs. tt) returns (λ c κs. tt) returns-2)
+to-geoparquet-spec = tie.close (tie.spec (λ c κs. tt) (λ c κs. tt) returns (λ c κs. tt) (λ c κs. tt) returns-2)

@@ -13,7 +13,7 @@ no-nan (inf s) e = tt
 no-nan (fin s m d) e = tt
 
 float-to-bits-result : tie.Need-float-to-bits-result
-float-to-bits-result c = no-nan (c .before .before .args .x) (c .before .if1 .left)
+float-to-bits-result c = no-nan (c .before .args .x) (c .if1 .left)
 
 pub bits-spec : {M : Type 1} → statement M
-bits-spec = tie.close (tie.spec float-to-bits-result (λ c. tt) (λ c. tt) (λ c. tt))
+bits-spec = tie.close (tie.spec float-to-bits-result (λ c. tt) (λ c. tt))

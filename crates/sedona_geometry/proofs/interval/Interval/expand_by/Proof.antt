@@ -5,7 +5,7 @@ use Rattle.sedona_geometry.proofs.interval.Interval.expand_by.Tie as ti
 
 returns : tie.Need-returns
 unfolding expandBy
-returns c = rw (← c .before .is-unmoved-by .ensures, c .if1 .taken)
+returns c = rw (c .plus-zero .ensures, ← c .before .before .is-unmoved-by .ensures, c .before .if1 .taken)
 
 returns-2 : tie.Need-returns-2
 unfolding expandBy
@@ -17,4 +17,4 @@ returns-2 c =
     )
 
 pub expand-by-spec : {M : Type 1} → statement M
-expand-by-spec = tie.close (tie.spec (λ c κs. tt) returns (λ c κs. tt) returns-2)
+expand-by-spec = tie.close (tie.spec (λ c κs. tt) (λ c κs. tt) returns (λ c κs. tt) returns-2)

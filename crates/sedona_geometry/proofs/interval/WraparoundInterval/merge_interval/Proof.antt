@@ -5,16 +5,17 @@ use Rattle.sedona_geometry.proofs.interval.WraparoundInterval.merge_int
 
 returns : tie.Need-returns
 unfolding mergeInterval
-returns c = rw (← c .before .is-empty .ensures, c .if1 .taken)
+returns c = rw (c .plus-zero .ensures, ← c .before .before .is-empty .ensures, c .before .if1 .taken)
 
 returns-2 : tie.Need-returns-2
 unfolding mergeInterval
 returns-2 c =
     rw (
-      ← c .before .before .before .is-empty .ensures,
-      c .before .before .if1 .left,
-      ← c .before .is-empty2 .ensures,
-      c .if2 .taken,
+      c .plus-zero2 .ensures,
+      ← c .before .before .before .before .is-empty .ensures,
+      c .before .before .before .if1 .left,
+      ← c .before .before .is-empty2 .ensures,
+      c .before .if2 .taken,
     )
 
 returns-3 : tie.Need-returns-3
@@ -29,4 +30,4 @@ returns-3 c =
     )
 
 pub merge-interval-spec : {M : Type 1} → statement M
-merge-interval-spec = tie.close (tie.spec (λ c κs. tt) returns (λ c κs. tt) returns-2 (λ c κs. tt) returns-3)
+merge-interval-spec = tie.close (tie.spec (λ c κs. tt) (λ c κs. tt) returns (λ c κs. tt) (λ c κs. tt) returns-2 (λ c κs. tt) returns-3)

@@ -8,8 +8,8 @@ use Rattle.sedona_geometry.proofs.interval.WraparoundInterval.merge_val
 returns : tie.Need-returns
 unfolding mergeValue
 returns c =
-    rw (← c .before .intersects-value .ensures, ← ne-self (c .before .before .args .value))
-    (⊎-elim (λ w. rw (w .taken)) (λ w. rw (w .0 .left, w .1 .taken)) (c .if1 .came))
+    rw (c .plus-zero .ensures, ← c .before .before .intersects-value .ensures, ← ne-self (c .before .before .before .args .value))
+    (⊎-elim (λ w. rw (w .taken)) (λ w. rw (w .0 .left, w .1 .taken)) (c .before .if1 .came))
 
 returns-2 : tie.Need-returns-2
 unfolding mergeValue
@@ -39,4 +39,4 @@ returns-3 c =
     )
 
 pub merge-value-spec : {M : Type 1} → statement M
-merge-value-spec = tie.close (tie.spec (λ c κs. tt) returns (λ c κs. tt) (λ c κs. tt) (λ c κs. tt) returns-2 (λ c κs. tt) returns-3)
+merge-value-spec = tie.close (tie.spec (λ c κs. tt) (λ c κs. tt) returns (λ c κs. tt) (λ c κs. tt) (λ c κs. tt) returns-2 (λ c κs. tt) returns-3)

@@ -3,7 +3,7 @@ use Rattle.sedona_geometry.proofs.interval.WraparoundInterval.new.State
 use Rattle.sedona_geometry.proofs.interval.WraparoundInterval.new.Tie as tie
 
 returns : tie.Need-returns
-returns c = rw (c .from-interval .ensures, c .before .new .ensures)
+returns c = rw (c .new .ensures)
 
 pub new-spec : {M : Type 1} → statement M
-new-spec = tie.close (tie.spec (λ c κs. tt) (λ c κs. tt) returns)
+new-spec = tie.close (tie.spec (λ c κs. tt) returns)
