@@ -13,6 +13,11 @@
  * and JOHIKAPE_M where z and m are known. Ends of what is not known are not read, and are written as
  * 0. An x may have its low above its high: it wraps around then. Ends may be infinite or NaN.
  *
+ * A ZERO at an end of an interval or a box, or in a `bbox` array, is given and written as +0, so that
+ * two boxes without NaN that are equal as numbers, with the same flags, have the same bytes. -0 may be
+ * lent: it is read as 0, and stays where a call is refused. The two sums of a record are no ends: their
+ * zeros are as IEEE 754 adds them.
+ *
  * A RECORD is ten doubles (the eight of its box, then the summed width and height of envelopes),
  * seven totals (geometries, bytes, points, and the counts of puntal, lineal, polygonal and
  * collection geometries), a set of geometry types as 32 bits, and flags that say what is known. A

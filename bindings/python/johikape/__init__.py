@@ -16,7 +16,8 @@ Here a file of readings on a compost site has two parts, with degrees as m; want
 
 `evaluate_by_position`, `evaluate_by_name`, `filter_bbox` and `merge` are methods, and functions of
 the same names here. `Records` and `evaluate` read whole tables in buffers, without copying.
-`find_name` is the search that each leaf makes by name.
+`find_name` is the search that each leaf makes by name. A zero at an end of what is given is +0, so two
+boxes without NaN that are equal have the same bytes.
 
 The work is done by a library in which each function is proved to give what its definition says.
 What it refuses is raised as `Refusal`, with a number. No call keeps anything, and other threads run

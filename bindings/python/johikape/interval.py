@@ -25,7 +25,8 @@ class _Ends(Value):
     hi: float
 
     def __init__(self, lo: float, hi: float) -> None:
-        self._set(lo=double(lo, "lo"), hi=double(hi, "hi"))
+        # +0 for -0, as in all that the library gives.
+        self._set(lo=double(lo, "lo") + 0.0, hi=double(hi, "hi") + 0.0)
 
     @classmethod
     def empty(cls: Type[E]) -> E:

@@ -87,6 +87,19 @@ class Boxes(unittest.TestCase):
         self.assertFalse(odd.intersects(BoundingBox((0, 1), (0, 1))))
         self.assertEqual(odd.merge(BoundingBox((0, 1), (0, 1))), BoundingBox((0, 1), (0, 1)))
 
+    def test_zeros_are_plus(self):
+        zero = BoundingBox((-0.0, -0.0), (-0.0, -0.0), z=(-0.0, -0.0))
+        for box in [
+            zero,
+            zero.merge(zero),
+            zero.intersection(zero),
+            zero.expand_by(math.nan),
+            BoundingBox.from_geoparquet([-0.0] * 6),
+        ]:
+            ends = (box.x.lo, box.x.hi, box.y.lo, box.y.hi, box.z.lo, box.z.hi)
+            self.assertEqual(pack("6d", *ends), bytes(48), box)
+        self.assertEqual(pack("6d", *zero.to_geoparquet()), bytes(48))
+
     def test_to_geoparquet(self):
         strip = BoundingBox((170, -170), (1, 2))
         self.assertEqual(strip.to_geoparquet(), (170, 1, -170, 2))

@@ -51,6 +51,20 @@ class Plain(unittest.TestCase):
         self.assertEqual(a.expand_by(-1), a)
         self.assertEqual(a.expand_by(nan), a)
 
+    def test_zeros_are_plus(self):
+        zero = Interval(-0.0, -0.0)
+        for given in [
+            zero,
+            zero.merge(zero),
+            zero.merge_value(-0.0),
+            Interval(nan, nan).merge_value(-0.0),
+            zero.intersection(zero),
+            zero.expand_by(nan),
+            zero.expand_by(-0.0),
+        ]:
+            self.assertEqual([math.copysign(1, end) for end in (given.lo, given.hi)], [1, 1], given)
+        self.assertTrue(zero.intersects_value(-0.0))
+
     def test_nan_ends_are_passed_over(self):
         self.assertEqual(Interval(5, nan).merge(Interval(nan, 3)), Interval(5, 3))
         self.assertEqual(Interval(10, 20).merge_value(nan), Interval(10, 20))
@@ -128,6 +142,20 @@ class X(unittest.TestCase):
 
 
 class Arguments(unittest.TestCase):
+    def test_zeros_are_plus(self):
+        zero, empty = WraparoundInterval(-0.0, -0.0), WraparoundInterval.empty()
+        for given in [
+            zero,
+            zero.merge(zero),
+            zero.merge(empty),
+            empty.merge(zero),
+            zero.merge_value(-0.0),
+            zero.merge_value(nan),
+            zero.expand_by(nan),
+            zero.intersection(zero),
+        ]:
+            self.assertEqual([math.copysign(1, end) for end in (given.lo, given.hi)], [1, 1], given)
+
     def test_plain_and_x_do_not_mix(self):
         for a, b in [
             (Interval(0, 1), WraparoundInterval(0, 1)),

@@ -2,6 +2,7 @@
 
 import math
 import unittest
+from array import array
 
 from johikape import BoundingBox, GeoStatistics, Records, Refusal, fold, merge
 
@@ -69,6 +70,26 @@ class Merging(unittest.TestCase):
             GeoStatistics().merge(BoundingBox((0, 1), (0, 1)))
         with self.assertRaisesRegex(TypeError, "expected GeoStatistics, not NoneType"):
             GeoStatistics().merge(None)
+
+
+class Zeros(unittest.TestCase):
+    """Records in buffers, since a `BoundingBox` has no -0."""
+
+    minus = array("d", [-0.0] * 10)
+    flags = array("I", [1 | 2 | 4 | 2048 | 4096])
+
+    def records(self):
+        return Records(self.minus, array("q", bytes(56)), array("I", [0]), self.flags)
+
+    def test_a_fold_has_plus_zero_and_lengths_as_they_are_added(self):
+        place = Records.of([GeoStatistics()])
+        self.records().fold_into(place)
+        self.assertEqual(bytes(place.doubles), bytes(64) + array("d", [-0.0] * 2).tobytes())
+
+    def test_a_folded_record(self):
+        folded = self.records().fold()
+        self.assertEqual(math.copysign(1, folded.bbox.x.lo), 1)
+        self.assertEqual(math.copysign(1, folded.total_envelope_width), -1)
 
 
 class Ranges(unittest.TestCase):

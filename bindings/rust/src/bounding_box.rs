@@ -32,9 +32,10 @@ pub struct BoundingBox {
 impl BoundingBox {
     /// A box of which z and m are not known. Intervals may be given as pairs, `(low, high)`.
     pub fn xy(x: impl Into<WraparoundInterval>, y: impl Into<Interval>) -> BoundingBox {
+        let x = x.into();
         BoundingBox {
-            x: x.into(),
-            y: y.into(),
+            x: WraparoundInterval::new(x.lo, x.hi),
+            y: made(y),
             z: None,
             m: None,
         }
@@ -44,7 +45,7 @@ impl BoundingBox {
     #[must_use]
     pub fn with_z(self, z: impl Into<Interval>) -> BoundingBox {
         BoundingBox {
-            z: Some(z.into()),
+            z: Some(made(z)),
             ..self
         }
     }
@@ -53,7 +54,7 @@ impl BoundingBox {
     #[must_use]
     pub fn with_m(self, m: impl Into<Interval>) -> BoundingBox {
         BoundingBox {
-            m: Some(m.into()),
+            m: Some(made(m)),
             ..self
         }
     }
@@ -156,7 +157,7 @@ impl BoundingBox {
         Ok(numbers[..count].to_vec())
     }
 
-    /// The box of such an array: turned back, it is the same array.
+    /// The box of such an array: turned back, it is the same numbers, a zero as +0.
     ///
     /// # Errors
     ///
@@ -209,4 +210,10 @@ impl BoundingBox {
         let (found, types) = calls::box_from_wkb(bytes)?;
         Ok((found.bounding_box(), types))
     }
+}
+
+/// The interval with the ends of another, a zero as +0.
+fn made(interval: impl Into<Interval>) -> Interval {
+    let Interval { lo, hi } = interval.into();
+    Interval::new(lo, hi)
 }

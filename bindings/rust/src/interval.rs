@@ -25,9 +25,12 @@ pub struct Interval {
 }
 
 impl Interval {
-    /// The interval with these ends, as they are.
+    /// The interval with these ends, a zero as +0.
     pub const fn new(lo: f64, hi: f64) -> Interval {
-        Interval { lo, hi }
+        Interval {
+            lo: lo + 0.0,
+            hi: hi + 0.0,
+        }
     }
 
     /// An interval that accepts no value: `(inf, -inf)`.
@@ -161,9 +164,12 @@ pub struct WraparoundInterval {
 }
 
 impl WraparoundInterval {
-    /// The x with these ends, as they are. It wraps around where the low is above the high.
+    /// The x with these ends, a zero as +0. It wraps around where the low is above the high.
     pub const fn new(lo: f64, hi: f64) -> WraparoundInterval {
-        WraparoundInterval { lo, hi }
+        WraparoundInterval {
+            lo: lo + 0.0,
+            hi: hi + 0.0,
+        }
     }
 
     /// Its ends, as the library takes them of every interval.
@@ -234,7 +240,7 @@ impl WraparoundInterval {
         raw::johikape_x_mid(self.ends())
     }
 
-    /// An x around both. An empty one yields the other as it is.
+    /// An x around both. An empty one yields the other.
     ///
     /// A plain x joins the piece of a wrapped one whose end is nearer its midpoint, at a tie the
     /// right. Where the two pieces then meet, the x is full.

@@ -41,6 +41,8 @@
 //! * A z or an m may be **missing**. That rules nothing out; missing is never empty.
 //! * A record **without a box** may match any literal, and one without types too may match
 //!   anything.
+//! * A **zero** at an end of an interval or a box, or in an array, is given as +0: two boxes without NaN
+//!   that are equal have the same bits. -0 that a caller puts into a field is read as 0.
 //! * A call that cannot be answered is refused by a number: [`Refusal`] has them all. A refused
 //!   call has changed nothing.
 

@@ -235,6 +235,39 @@ fn an_array_that_is_no_box_is_refused() {
     }
 }
 
+/// The bits of every end of a box that knows z.
+fn bits(bounds: &BoundingBox) -> [u64; 6] {
+    let (x, y, z) = (bounds.x, bounds.y, bounds.z.unwrap());
+    [x.lo, x.hi, y.lo, y.hi, z.lo, z.hi].map(f64::to_bits)
+}
+
+#[test]
+fn boxes_of_equal_numbers_have_the_same_bits() {
+    let minus = Interval { lo: -0.0, hi: -0.0 };
+    let filled = BoundingBox {
+        x: WraparoundInterval { lo: -0.0, hi: -0.0 },
+        y: minus,
+        z: Some(minus),
+        m: None,
+    };
+    let zero = BoundingBox::xy((0.0, 0.0), (0.0, 0.0)).with_z((0.0, 0.0));
+    let point = wkb(1, &[1001], &[-0.0, -0.0, -0.0]);
+    let given = [
+        BoundingBox::xy((-0.0, -0.0), (-0.0, -0.0)).with_z((-0.0, -0.0)),
+        BoundingBox::xy(filled.x, minus).with_z(minus),
+        filled.merge(&filled),
+        filled.intersection(&filled).unwrap(),
+        filled.expand_by(NAN),
+        BoundingBox::from_geoparquet(&[-0.0; 6]).unwrap(),
+        BoundingBox::from_wkb(&point).unwrap().0,
+    ];
+    for bounds in given {
+        assert_eq!(bits(&bounds), bits(&zero), "{bounds:?}");
+    }
+    let array = filled.to_geoparquet().unwrap();
+    assert!(array.iter().all(|number| number.to_bits() == 0));
+}
+
 #[test]
 fn a_point_low_byte_first() {
     let point = [

@@ -224,3 +224,50 @@ fn a_wrapped_x_expands_until_its_ends_meet() {
     assert_eq!(x(20.0, 10.0).expand_by(NAN), x(20.0, 10.0));
     assert_eq!(x(1.0, 2.0).expand_by(3.0), x(-2.0, 5.0));
 }
+
+/// Whether both ends are +0.
+fn are_plus_zero(ends: [f64; 2]) -> bool {
+    ends.map(f64::to_bits) == [0; 2]
+}
+
+#[test]
+fn every_zero_that_is_given_is_plus_zero() {
+    // Filled in by the caller: `new` would make it +0.
+    let minus = Interval { lo: -0.0, hi: -0.0 };
+    let given = [
+        plain(-0.0, -0.0),
+        minus.merge(minus),
+        minus.merge_value(-0.0),
+        plain(NAN, NAN).merge_value(-0.0),
+        minus.intersection(minus),
+        minus.expand_by(NAN),
+        minus.expand_by(-0.0),
+    ];
+    for zero in given {
+        assert!(are_plus_zero([zero.lo, zero.hi]), "{zero:?}");
+    }
+    let minus = WraparoundInterval { lo: -0.0, hi: -0.0 };
+    let empty = WraparoundInterval::empty();
+    let given = [
+        x(-0.0, -0.0),
+        minus.merge(minus),
+        minus.merge(empty),
+        empty.merge(minus),
+        minus.merge_value(-0.0),
+        minus.merge_value(NAN),
+        minus.expand_by(NAN),
+        minus.intersection(minus).unwrap(),
+    ];
+    for zero in given {
+        assert!(are_plus_zero([zero.lo, zero.hi]), "{zero:?}");
+    }
+}
+
+#[test]
+fn minus_zero_is_read_as_zero() {
+    let minus = Interval { lo: -0.0, hi: -0.0 };
+    assert!(minus.intersects_value(0.0) && plain(0.0, 0.0).intersects_value(-0.0));
+    assert!(minus.contains(plain(0.0, 0.0)) && plain(0.0, 0.0).contains(minus));
+    let wraps = WraparoundInterval { lo: 5.0, hi: -0.0 };
+    assert!(wraps.intersects_value(0.0) && !wraps.intersects_value(1.0));
+}

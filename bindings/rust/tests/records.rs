@@ -1,6 +1,6 @@
 //! Merging and folding of records.
 
-use johikape::{BoundingBox, GeoStatistics, Refusal, fold};
+use johikape::{BoundingBox, GeoStatistics, Interval, Refusal, WraparoundInterval, fold};
 
 /// A record that knows every part.
 fn whole() -> GeoStatistics {
@@ -233,4 +233,51 @@ fn a_fold_is_the_merge_of_its_records_in_their_order() {
     assert_eq!(fold(&records), Ok(merged));
     let reversed: Vec<_> = records.into_iter().rev().collect();
     assert_ne!(fold(&reversed), Ok(merged));
+}
+
+/// A record of a box that its caller filled with -0, and of lengths that are -0.
+fn minus_zeros(points: i64) -> GeoStatistics {
+    let minus = Interval { lo: -0.0, hi: -0.0 };
+    let bbox = BoundingBox {
+        x: WraparoundInterval { lo: -0.0, hi: -0.0 },
+        y: minus,
+        z: None,
+        m: None,
+    };
+    GeoStatistics {
+        bbox: Some(bbox),
+        total_envelope_width: Some(-0.0),
+        ..with_points(points)
+    }
+}
+
+fn are_minus(record: &GeoStatistics) -> [bool; 3] {
+    let bbox = record.bbox.unwrap();
+    let width = record.total_envelope_width.unwrap_or(0.0);
+    [bbox.x.lo, bbox.y.hi, width].map(f64::is_sign_negative)
+}
+
+#[test]
+fn a_records_box_has_plus_zero_and_its_lengths_are_as_they_are_added() {
+    let minus = minus_zeros(1);
+    assert_eq!(are_minus(&fold(&[minus]).unwrap()), [false, false, true]);
+    assert_eq!(
+        are_minus(&fold(&[minus, minus]).unwrap()),
+        [false, false, true]
+    );
+    let without = GeoStatistics {
+        bbox: None,
+        ..minus
+    };
+    for (mut record, other) in [(minus, without), (without, minus)] {
+        assert_eq!(record.merge(&other), Ok(()));
+        assert_eq!(are_minus(&record), [false, false, true]);
+    }
+}
+
+#[test]
+fn a_refused_merge_leaves_minus_zero() {
+    let mut record = minus_zeros(i64::MAX);
+    assert_eq!(record.merge(&with_points(1)), Err(Refusal::Overflow));
+    assert_eq!(are_minus(&record), [true; 3]);
 }

@@ -10,7 +10,7 @@ returns c = rw (← c .before .before .box-refusal .ensures, ne-eqb _ _ (c .befo
 
 returns-2 : tie.Need-returns-2
 unfolding toGeoparquet
-returns-2 c = 
+returns-2 c =
     rw (
       ← c .before .before .before .before .box-refusal .ensures,
       eq-eqb _ _ (c .before .before .before .if1 .left),
