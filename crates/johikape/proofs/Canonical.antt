@@ -1,5 +1,6 @@
--- Request 6: what a C call gives or leaves has no −0 in an interval, a box or an array. Of a filter's box, an array and a geometry's box the crates that
--- give them say so (`filter-bbox-canonical`, `to-geoparquet-canonical`, `from-geoparquet-canonical`, `wkb-bounds-canonical`). Assumes nothing.
+-- Request 6: what a C call gives, or leaves where it is not refused, has no −0 in an interval or a box. What `johikape_filter_bbox`, `_box_to_geoparquet`,
+-- `_box_from_geoparquet` and `_box_from_wkb` leave, the crates that give it say so of: `filter-bbox-canonical`, `to-geoparquet-canonical`,
+-- `from-geoparquet-canonical` and `wkb-bounds-canonical`, with `doubles-canonical` here. Assumes nothing.
 use mathlib.Core.Path.{_≡_, refl}
 use mathlib.Core.Bool.{Bool, true, false, _&&_, cond}
 use lib.ListN.{take}
@@ -7,6 +8,7 @@ use lib.Dec.{eqb}
 use lib.Ieee.{Float, ofBits}
 use Rattle.sedona_geometry.specs.Float.{isMinusZero}
 use Rattle.sedona_geometry.specs.Interval as interval
+use Rattle.sedona_geometry.specs.WraparoundInterval as wraparound
 use Rattle.sedona_geometry.specs.BoundingBox as boundingBox
 use Rattle.sedona_geometry.specs.BoundingBox.{Canonical, CanonicalWhereKnown}
 use Rattle.sedona_geometry.specs.declared.interval.Interval.{Interval}
@@ -14,6 +16,7 @@ use Rattle.sedona_geometry.specs.declared.bounding_box.Dimension as Dimension
 use Rattle.sedona_geometry.specs.declared.bounding_box.Dimension.{Dimension}
 use Rattle.sedona_geometry.specs.declared.bounding_box.BoundingBox.{BoundingBox}
 use Rattle.sedona_geometry.proofs.Canonical as canonical
+use Rattle.sedona_geometry.proofs.Canonical.{CanonicalWhereSingle}
 use Rattle.sedona_expr.specs.Error as error
 use Rattle.sedona_expr.specs.Statistics as statistics
 use Rattle.sedona_expr.specs.declared.statistics.Bbox as Bbox
@@ -22,13 +25,43 @@ use Rattle.sedona_expr.specs.declared.statistics.GeoStatistics.{GeoStatistics}
 use Rattle.sedona_expr.proofs.Canonical.{CanonicalRecord, merge-value-canonical, fold-canonical}
 use Rattle.geoparquet_bbox.specs.Layout.{NoMinusZero}
 use Rattle.johikape.specs.Boxes as box
-use Rattle.johikape.specs.Intervals as intervals
+use Rattle.johikape.specs.Intervals.{plain, x, ends}
 use Rattle.johikape.specs.Records as rec
+use Rattle.johikape.specs.declared.intervals.JohikapeInterval.{JohikapeInterval}
 
--- ---- intervals: those that calls give are canonical (sedona_geometry's Canonical), and so are their ends
-pub ends-canonical : {i : Interval} → interval.Canonical i → (isMinusZero (intervals.ends i .lo) ≡ false) × (isMinusZero (intervals.ends i .hi) ≡ false)
-unfolding intervals.ends
+-- ---- intervals
+abbrev PlusZeros : JohikapeInterval → Type 0
+PlusZeros i = (isMinusZero (i .lo) ≡ false) × (isMinusZero (i .hi) ≡ false)
+
+ends-canonical : {i : Interval} → interval.Canonical i → PlusZeros (ends i)
+unfolding ends
 ends-canonical c = (c .lo, c .hi)
+
+module _ (a b : JohikapeInterval) (v : Float) where
+  pub interval-merge : PlusZeros (ends (interval.mergeInterval (plain a) (plain b)))
+  interval-merge = ends-canonical (canonical.merge-canonical (plain a) (plain b))
+
+  pub interval-merge-value : PlusZeros (ends (interval.mergeValue (plain a) v))
+  interval-merge-value = ends-canonical (canonical.merge-value-canonical (plain a) v)
+
+  pub interval-intersection : PlusZeros (ends (interval.intersection (plain a) (plain b)))
+  interval-intersection = ends-canonical (canonical.intersection-canonical (plain a) (plain b))
+
+  pub interval-expand-by : PlusZeros (ends (interval.expandBy (plain a) v))
+  interval-expand-by = ends-canonical (canonical.expand-canonical (plain a) v)
+
+  pub x-merge : PlusZeros (ends (wraparound.mergeInterval (x a) (x b) .inner))
+  x-merge = ends-canonical (canonical.merge-x-canonical (x a) (x b))
+
+  pub x-merge-value : PlusZeros (ends (wraparound.mergeValue (x a) v .inner))
+  x-merge-value = ends-canonical (canonical.merge-value-x-canonical (x a) v)
+
+  pub x-expand-by : PlusZeros (ends (wraparound.expandBy (x a) v .inner))
+  x-expand-by = ends-canonical (canonical.expand-x-canonical (x a) v)
+
+  -- it has written what both hold; or it is refused, and what was there stays
+  pub x-intersection : CanonicalWhereSingle (wraparound.intersection (x a) (x b))
+  x-intersection = canonical.intersection-x-canonical (x a) (x b)
 
 -- ---- boxes: the eight doubles, with 0 for what is missing
 low-canonical : (d : Dimension) → CanonicalWhereKnown d → isMinusZero (box.low d) ≡ false

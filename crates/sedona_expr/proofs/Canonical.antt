@@ -4,7 +4,6 @@ use mathlib.Core.Bool.{Bool, true, false, _&&_, _||_, cond}
 use mathlib.Core.List.{List, [], _∷_}
 use Prim.Native.Nat.{ℕ, _/_}
 use lib.Dec.{eqb, ltb}
-use lib.Ieee.{Float}
 use lib.ListN.{length, getD}
 use borrow.Author.Tests.{eqb-true, eqb-false}
 use Rattle.sedona_geometry.specs.WraparoundInterval as wraparound
@@ -20,7 +19,6 @@ use Rattle.sedona_expr.specs.Tables.{Boxes, hasBox, knowsZ, knowsM, inte
 use Rattle.sedona_expr.specs.declared.statistics.Bbox as Bbox
 use Rattle.sedona_expr.specs.declared.statistics.Bbox.{Bbox}
 use Rattle.sedona_expr.specs.declared.statistics.GeoStatistics.{GeoStatistics}
-use Rattle.sedona_expr.specs.declared.statistics.Merged.{Merged}
 use Rattle.sedona_expr.specs.declared.statistics.Folded.{Folded}
 
 -- A record whose box is canonical.

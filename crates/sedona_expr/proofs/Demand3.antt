@@ -11,6 +11,7 @@ use Rattle.sedona_geometry.specs.declared.bounding_box.BoundingBox.{BoundingBox
 use Rattle.sedona_geometry.proofs.Boxes.{plus-contains, whole}
 use Rattle.sedona_expr.specs.Tables.{Records, recordAt, Table, count, root, Lookup, place}
 use Rattle.sedona_expr.specs.Refusals.{boxRefusal}
+use Rattle.sedona_expr.specs.SpatialFilter.{boxFor}
 use Rattle.sedona_expr.specs.Calls.{outcome, filterBbox}
 use Rattle.sedona_expr.specs.Demand.{Row, WhereBox, Holds, EachLeaf, OfLiteral, Wanted, Each, isPoint, lowToHigh, Pointed, MayMatch, Reaches, Demand3}
 use Rattle.sedona_expr.specs.declared.statistics.Bbox as Bbox
@@ -58,7 +59,7 @@ module _ (l : Lookup) (t : Table) (r : Records) (row : Row) (names : List ℕ) (
           → WhereBox (λ b. (filterBbox t n .number ≡ 0) × (boundingBox.contains (filterBbox t n .bounds) b ≡ true)) o
       go Bbox.Missing e D p = tt
       go (Bbox.Known b) e D p =
-          rw w (refl, whole (plus-contains (reaches n (λ c. row (place l c)) b D (each-map point p) (root t) literals (of-name E i b h e) H)))
+          rw w (refl, plus-contains (boxFor n (root t)) b (whole (reaches n (λ c. row (place l c)) b D (each-map point p) (root t) literals (of-name E i b h e) H)))
 
 -- ---- the whole
 -- Demand 3: against the folds of its columns' records the filter of a row of which it holds answers "may match", by position and by name; and

@@ -63,7 +63,7 @@ Covering k = HasBox (λ b. boundingBox.contains b k ≡ true)
 
 plus-covering : (k : BoundingBox) (b : Bbox) → Covering k b → Covering k (plusZeroWhereKnown b)
 plus-covering k Bbox.Missing h = absurd h
-plus-covering k (Bbox.Known b) h = boxes.whole (boxes.plus-contains (boxes.parts h))
+plus-covering k (Bbox.Known b) h = boxes.plus-contains b k h
 
 merge-covering : (k : BoundingBox) (a b : Bbox) → DoublesWhereKnown a → DoublesWhereKnown b → Covering k a ⊎ Covering k b → Covering k (mergeBboxes a b)
 unfolding mergeBboxes

@@ -25,7 +25,7 @@ use Rattle.sedona_expr.specs.declared.statistics.Folded.{Folded}
 
 -- ---- the parts
 
--- Where a call hands a box on.
+-- A box as a call hands it on.
 abbrev pub plusZeroWhereKnown : Bbox → Bbox
 plusZeroWhereKnown Bbox.Missing = Bbox.Missing
 plusZeroWhereKnown (Bbox.Known a) = Bbox.Known (boundingBox.plusZero a)
@@ -103,7 +103,7 @@ empty = record {
   «total_envelope_height» = Extent.Known float.zero;
 }
 
--- Where a call hands a record on. The two lengths are no intervals, and stay.
+-- A record as a call hands it on. The two lengths are no intervals, and stay.
 abbrev pub plusZero : GeoStatistics → GeoStatistics
 plusZero a = record {
   bbox = plusZeroWhereKnown (a .bbox);
@@ -177,7 +177,7 @@ first r = record { number = 0; any = true; rec = plusZero r }
 abbrev pub ofMerged : Merged → Folded
 ofMerged m = record { number = m .number; any = true; rec = m .rec }
 
--- A refusal.
+-- A refusal, handed on.
 abbrev pub stays : Folded → Folded
 stays f = record { number = f .number; any = f .any; rec = plusZero (f .rec) }
 

@@ -50,7 +50,7 @@ pub struct Merged {
 }
 
 impl Bbox {
-    // Handed on, with +0 for zero.
+    // The box as a call hands it on, with +0 for zero.
     fn plus_zero(self) -> Bbox
         ensures { λ r. ⌜ r ≡ statistics.plusZeroWhereKnown self ⌝ }
     {
@@ -191,7 +191,7 @@ impl GeoStatistics {
         }
     }
 
-    // Handed on, with +0 for zero in its box.
+    // The record as a call hands it on, with +0 for zero in its box.
     fn plus_zero(self) -> GeoStatistics
         ensures { λ r. ⌜ r ≡ statistics.plusZero self ⌝ }
     {

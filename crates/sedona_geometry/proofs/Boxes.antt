@@ -11,7 +11,7 @@ use Rattle.sedona_geometry.specs.declared.bounding_box.Dimension.{Dimens
 use Rattle.sedona_geometry.specs.declared.bounding_box.Dimension.the-variants.{Missing, Known}
 use Rattle.sedona_geometry.specs.declared.bounding_box.BoundingBox.{BoundingBox}
 use Rattle.sedona_geometry.proofs.Order.{Le, holds, is-true}
-use Rattle.sedona_geometry.proofs.Alike as alike
+use Rattle.sedona_geometry.proofs.Alike.{same-itself, plus-same-box, boxes-contain-alike}
 use Rattle.sedona_geometry.proofs.Canonical as canonical
 use Rattle.sedona_geometry.proofs.Canonical.{xyzm-is, stays-box, accepted-is}
 use Rattle.sedona_geometry.proofs.Accepts as plain
@@ -167,19 +167,8 @@ whole {a} {k} p =
     (p .x) (p .y .holds) (p .z) (p .m)
 
 -- ---- a box handed on contains what it contained
-plus-known-contains : (d k : Dimension) → dimensionsContain d k ≡ true → dimensionsContain (plusZeroWhereKnown d) k ≡ true
-unfolding testKnown
-plus-known-contains Missing k h = refl
-plus-known-contains (Known i) Missing h = refl
-plus-known-contains (Known i) (Known j) h = plain.plus-contains i (record { holds = h }) .holds
-
-pub plus-contains : {a k : BoundingBox} → Parts a k → Parts (plusZero a) k
-plus-contains {a} {k} p = record {
-  x = alike.x-contains-alike (alike.plus-same (a .x .inner)) (alike.itself (k .x .inner)) ∙ p .x;
-  y = plain.plus-contains (a .y) (p .y);
-  z = plus-known-contains (a .z) (k .z) (p .z);
-  m = plus-known-contains (a .m) (k .m) (p .m);
-}
+pub plus-contains : (a k : BoundingBox) → contains a k ≡ true → contains (plusZero a) k ≡ true
+plus-contains a k h = boxes-contain-alike (plus-same-box a) (same-itself k) ∙ h
 
 -- ---- where no x wraps and the other's is not empty, a box contains what it contains in the Rust
 pub contains-as-the-rust : (a b : BoundingBox) → wraparound.isWraparound (a .x) ≡ false → wraparound.isWraparound (b .x) ≡ false → wraparound.isEmpty (b .x) ≡ false

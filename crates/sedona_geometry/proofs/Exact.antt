@@ -1,27 +1,25 @@
 -- Doubles by their values: two of one value and sign are one, two that are equal as numbers differ at most in a zero's sign, and +0 added to one
 -- gives it back, a zero as +0. Assumes nothing.
-use mathlib.Core.Path.{_≡_, refl, sym, ap, ap₂, _∙_, subst}
-use mathlib.Core.Logic.{inl, inr}
+use mathlib.Core.Path.{_≡_, refl, sym, ap, _∙_, subst}
 use mathlib.Core.Bool.{Bool, true, false, _&&_, _||_, cond, Bool·beq}
 use Prim.Native.Nat.{ℕ, zero, suc, _+_, _-_, _*_, _/_, _%_, _^_, _≤_, _<_}
-use native.Mathlib.Nat.{add-zero, zero-add, sub-zero, zero-mul, mul-one, mul-assoc, mul-comm, mul-pos, mul-right-comm, one-mul, mul-lt-mul-of-pos-right, lt-of-mul-lt-mul-right}
+use native.Mathlib.Nat.{zero-mul, mul-one, mul-pos, mul-right-comm, one-mul, mul-lt-mul-of-pos-right, lt-of-mul-lt-mul-right}
 use native.Mathlib.Omega.{arith}
 use lib.IntN.{ℤ, pos, negsuc}
-use lib.Dec.{T, leb, ltb, eqb, leb→le, ltb→lt, eqb→eq}
+use lib.Dec.{T, leb, ltb, eqb, ltb→lt, eqb→eq}
 use lib.Pow.{pow-add, pow-pos}
 use lib.Ieee.{Float, nan, inf, fin, Format, prec, emax, low, up, down, size, hid, top, level, round, neg, sum, add, eq, fits, toBits, ofBits}
 use lib.Ieee.Bits.{ofBits-toBits}
 use lib.Ieee.Exact.{HasValue, round-exact}
 use lib.Ieee.Fits.{down-pos, up-pos, and-l, and-r, round-fits}
 use lib.Ieee.Nearest.{div-same}
-use borrow.Author.Tests.{lt-ltb, le-ltb}
 use Rattle.sedona_geometry.specs.Float as float
 use Rattle.sedona_geometry.specs.Float.{plusZero, abs}
 use Rattle.sedona_geometry.proofs.PlusZero.{Alike, same, zeros}
 use Rattle.sedona_geometry.proofs.Order.{cross, eq-fin}
 use Rattle.sedona_geometry.proofs.Sign.{abs-zero}
 use Rattle.sedona_geometry.proofs.Alike.{sum-zero}
-use Rattle.sedona_geometry.proofs.Rounding.{fits-down, factor, factor-mul, round-zero}
+use Rattle.sedona_geometry.proofs.Rounding.{fits-down, factor-mul, round-zero}
 
 -- ---- one value and one sign, one double
 module _ (f : Format) (s : Bool) (m : ℕ) (e : ℤ) (n : ℕ) (d : ℤ) (v : m * up e * down d ≡ n * up d * down e) where

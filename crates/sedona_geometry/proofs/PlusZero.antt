@@ -38,10 +38,6 @@ alike-plus (inf s) = same
 alike-plus (fin s zero e) = zeros
 alike-plus (fin s (suc m) e) = same
 
-pub alike-sym : {x y : Float} → Alike x y → Alike y x
-alike-sym same = same
-alike-sym zeros = zeros
-
 -- made +0 they are equal
 pub plus-alike : {x y : Float} → Alike x y → plusZero x ≡ plusZero y
 plus-alike same = refl

@@ -39,7 +39,7 @@ mergeDimensions d e = joinKnown interval.mergeInterval d e
 abbrev pub intersectDimensions : Dimension → Dimension → Dimension
 intersectDimensions d e = joinKnown interval.intersection d e
 
--- Where a call hands a dimension on.
+-- A dimension as a call hands it on.
 abbrev pub plusZeroWhereKnown : Dimension → Dimension
 plusZeroWhereKnown Missing = Missing
 plusZeroWhereKnown (Known i) = Known (interval.plusZero i)
@@ -47,7 +47,7 @@ plusZeroWhereKnown (Known i) = Known (interval.plusZero i)
 abbrev pub xyzm : WraparoundInterval → Interval → Dimension → Dimension → BoundingBox
 xyzm x y z m = record { x = wraparound.plusZero x; y = interval.plusZero y; z = plusZeroWhereKnown z; m = plusZeroWhereKnown m }
 
--- Where a call hands a box on.
+-- A box as a call hands it on.
 abbrev pub plusZero : BoundingBox → BoundingBox
 plusZero a = xyzm (a .x) (a .y) (a .z) (a .m)
 

@@ -1,5 +1,5 @@
 -- What Rust's `f64` methods give, over IEEE 754. The source leaves a zero's sign open: request 6 settles it.
-use mathlib.Core.Bool.{Bool, true, false, cond}
+use mathlib.Core.Bool.{Bool, false, cond}
 use Prim.Native.Nat as nat
 use lib.IntN.{pos}
 use lib.Ieee.{Float, nan, inf, fin, lt, isNan}
@@ -10,14 +10,14 @@ zero = fin false 0 (pos 0)
 abbrev pub two : Float
 two = fin false 1 (pos 1)
 
--- Request 6: −0 "holds +0 for zero"; all else stays.
+-- Request 6: "holds +0 for zero". All else stays.
 abbrev pub plusZero : Float → Float
 plusZero nan = nan
 plusZero (inf s) = inf s
 plusZero (fin s nat.zero e) = fin false 0 e
 plusZero (fin s (nat.suc m) e) = fin s (nat.suc m) e
 
--- −0.
+-- The number is −0.
 abbrev pub isMinusZero : Float → Bool
 isMinusZero nan = false
 isMinusZero (inf s) = false

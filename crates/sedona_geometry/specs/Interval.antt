@@ -29,7 +29,7 @@ hasNan i = isNan (i .lo) || isNan (i .hi)
 abbrev pub new : Float → Float → Interval
 new lo hi = record { lo = float.plusZero lo; hi = float.plusZero hi }
 
--- Where a call hands an interval on.
+-- An interval as a call hands it on.
 abbrev pub plusZero : Interval → Interval
 plusZero i = new (i .lo) (i .hi)
 

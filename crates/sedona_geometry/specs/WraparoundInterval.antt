@@ -18,7 +18,7 @@ new lo hi = record { inner = interval.new lo hi }
 abbrev pub fromInterval : Interval → WraparoundInterval
 fromInterval i = new (i .lo) (i .hi)
 
--- Where a call hands an x on.
+-- An x as a call hands it on.
 abbrev pub plusZero : WraparoundInterval → WraparoundInterval
 plusZero x = fromInterval (x .inner)
 

@@ -13,7 +13,7 @@ pub enum Dimension {
 }
 
 impl Dimension {
-    // Handed on.
+    // The dimension as a call hands it on, with +0 for zero.
     fn plus_zero(self) -> Dimension
         ensures { λ r. ⌜ r ≡ boundingBox.plusZeroWhereKnown self ⌝ }
     {
@@ -130,7 +130,7 @@ impl BoundingBox {
         }
     }
 
-    // Handed on.
+    // The box as a call hands it on, with +0 for zero.
     fn plus_zero(self) -> BoundingBox
         ensures { λ r. ⌜ r ≡ boundingBox.plusZero self ⌝ }
     {

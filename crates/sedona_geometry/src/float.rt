@@ -5,7 +5,7 @@ ghost use mathlib.Core.Bool.{false};
 ghost use lib.Ieee.{inf};
 ghost use Rattle.sedona_geometry.specs.Float as float;
 
-// +0 for −0, and else the number as it is: so IEEE 754 adds +0.
+// +0 for -0, and else the number as it is: so IEEE 754 adds +0.
 pub(crate) fn plus_zero(v: f64) -> f64
     ensures { λ r. ⌜ r ≡ float.plusZero v ⌝ }
 {

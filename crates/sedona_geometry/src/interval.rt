@@ -29,7 +29,7 @@ impl Interval {
         }
     }
 
-    // Handed on.
+    // The interval as a call hands it on, with +0 for zero.
     pub(crate) fn plus_zero(self) -> Interval
         ensures { λ r. ⌜ r ≡ interval.plusZero self ⌝ }
     {
@@ -219,7 +219,7 @@ impl WraparoundInterval {
         WraparoundInterval::new(inner.lo, inner.hi)
     }
 
-    // Handed on.
+    // The x as a call hands it on, with +0 for zero.
     pub(crate) fn plus_zero(self) -> WraparoundInterval
         ensures { λ r. ⌜ r ≡ wraparound.plusZero self ⌝ }
     {
