@@ -259,3 +259,34 @@ impl fmt::Display for Digest {
         write!(f, "{:08x}", self.0)
     }
 }
+
+#[cfg(test)]
+mod tests {
+    use super::*;
+
+    fn record() -> GeoStatistics {
+        GeoStatistics::unspecified()
+            .with_bbox(Some(BoundingBox::xy((-0.0, 5.0), (-5.0, -0.0))))
+            .with_total_envelope_width(-0.0)
+    }
+
+    #[test]
+    fn intervals_have_plus_zero_and_other_doubles_their_own() {
+        assert_eq!(Answer::from(Interval::new(-0.0, -0.0)).text(), "0 0");
+        assert_eq!(Answer::from(-0.0).text(), "-0");
+        assert_eq!(
+            Answer::laid_out(Ok(vec![-0.0; 4])).text(),
+            "0 4 0 0 0 0 0 0"
+        );
+        assert!(Answer::from(-0.0).words().eq([1 << 63]));
+    }
+
+    #[test]
+    fn a_record_that_is_left_is_as_it_was() {
+        let given = Answer::numbered(Some(record()), GeoStatistics::unspecified());
+        assert!(given.text().starts_with("0 0 5 -5 0 "), "{}", given.text());
+        assert!(given.text().ends_with(" -0 -"), "{}", given.text());
+        let left = Answer::numbered(None, record());
+        assert!(left.text().starts_with("3 -0 5 -5 -0 "), "{}", left.text());
+    }
+}

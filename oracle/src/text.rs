@@ -136,7 +136,7 @@ mod tests {
 
     #[test]
     fn words_that_are_written_as_they_are_read() {
-        let words = "nan inf -inf 0 7 -7 1/2 -35/2 1/1024 x3fb999999999999a x0000000000000001 \
+        let words = "nan inf -inf 0 -0 7 -7 1/2 -35/2 1/1024 x3fb999999999999a x0000000000000001 \
             8796093022208 x42a0000000000001 xffefffffffffffff";
         for word in words.split(' ') {
             assert_eq!(read(word).map(write).as_deref(), Some(word));
@@ -145,7 +145,11 @@ mod tests {
 
     #[test]
     fn words_that_are_written_in_another_way() {
-        let words = [("-0", "0"), ("2/4", "1/2"), ("1/10", "x3fb999999999999a")];
+        let words = [
+            ("-0/5", "-0"),
+            ("2/4", "1/2"),
+            ("1/10", "x3fb999999999999a"),
+        ];
         for (word, written) in words {
             assert_eq!(read(word).map(write).as_deref(), Some(written));
         }
