@@ -1,11 +1,12 @@
 -- Request 6: what a C call gives, or leaves where it is not refused, has no −0 in an interval or a box. What `johikape_filter_bbox`, `_box_to_geoparquet`,
 -- `_box_from_geoparquet` and `_box_from_wkb` leave, the crates that give it say so of: `filter-bbox-canonical`, `to-geoparquet-canonical`,
 -- `from-geoparquet-canonical` and `wkb-bounds-canonical`, with `doubles-canonical` here. Assumes nothing.
-use mathlib.Core.Path.{_≡_, refl}
+use mathlib.Core.Path.{_≡_, refl, ap}
 use mathlib.Core.Bool.{Bool, true, false, _&&_, cond}
+use mathlib.Core.List.{map}
 use lib.ListN.{take}
 use lib.Dec.{eqb}
-use lib.Ieee.{Float, ofBits}
+use lib.Ieee.{Float, binary64, ofBits, toBits}
 use Rattle.sedona_geometry.specs.Float.{isMinusZero}
 use Rattle.sedona_geometry.specs.Interval as interval
 use Rattle.sedona_geometry.specs.WraparoundInterval as wraparound
@@ -17,6 +18,7 @@ use Rattle.sedona_geometry.specs.declared.bounding_box.Dimension.{Dimension}
 use Rattle.sedona_geometry.specs.declared.bounding_box.BoundingBox.{BoundingBox}
 use Rattle.sedona_geometry.proofs.Canonical as canonical
 use Rattle.sedona_geometry.proofs.Canonical.{CanonicalWhereSingle}
+use Rattle.sedona_geometry.proofs.Keys.{same-box}
 use Rattle.sedona_expr.specs.Error as error
 use Rattle.sedona_expr.specs.Statistics as statistics
 use Rattle.sedona_expr.specs.declared.statistics.Bbox as Bbox
@@ -82,6 +84,13 @@ doubles-canonical {b} c = (
     (c .y .lo, (c .y .hi, (low-canonical (b .z) (c .z), (high-canonical (b .z) (c .z), (low-canonical (b .m) (c .m), (high-canonical (b .m) (c .m), tt)))))),
   ),
 )
+
+-- "have equal bytes there": what is written of canonical boxes that are equal as numbers
+pub same-bytes : {a b : BoundingBox} → boundingBox.Doubles a → boundingBox.Doubles b → Canonical a → Canonical b → boundingBox.EqualNumbers a b
+    → (map (toBits binary64) (box.doubles a) ≡ map (toBits binary64) (box.doubles b)) × (box.flag a ≡ box.flag b)
+same-bytes D E c d e =
+    let same = same-box D E c d e in
+    (ap (λ (k : BoundingBox). map (toBits binary64) (box.doubles k)) same, ap box.flag same)
 
 pub merged-canonical : (a b : Bbox) → Canonical (box.merged a b .bounds)
 unfolding box.join
