@@ -339,27 +339,28 @@ plus-known-alike Missing (Known j) h = absurd h
 plus-known-alike (Known i) Missing h = absurd h
 plus-known-alike (Known i) (Known j) h = ap (λ (l : Interval). Known l) (plus-zero-alike h)
 
-module _ (f : Interval → Interval → Bool) (alike : (i i' j j' : Interval) → SameEnds i i' → SameEnds j j' → f i j ≡ f i' j') where
-  test-alike : (d d' e e' : Dimension) → SameKnown d d' → SameKnown e e' → testKnown f d e ≡ testKnown f d' e'
-  unfolding testKnown
-  test-alike Missing Missing e e' h k = refl
-  test-alike Missing (Known j) e e' h k = absurd h
-  test-alike (Known i) Missing e e' h k = absurd h
-  test-alike (Known i) (Known i') Missing Missing h k = refl
-  test-alike (Known i) (Known i') Missing (Known j) h k = absurd k
-  test-alike (Known i) (Known i') (Known j) Missing h k = absurd k
-  test-alike (Known i) (Known i') (Known j) (Known j') h k = alike i i' j j' h k
+-- of two pairs: the first two are missing, the second two are, or all are known
+by-known : (P : Dimension → Dimension → Dimension → Dimension → Type 0) → ((e e' : Dimension) → P Missing Missing e e') → ((i i' : Interval) → P (Known i) (Known i') Missing Missing)
+    → ((i i' j j' : Interval) → SameEnds i i' → SameEnds j j' → P (Known i) (Known i') (Known j) (Known j'))
+    → (d d' e e' : Dimension) → SameKnown d d' → SameKnown e e' → P d d' e e'
+by-known P p q r Missing Missing e e' h k = p e e'
+by-known P p q r Missing (Known i') e e' h k = absurd h
+by-known P p q r (Known i) Missing e e' h k = absurd h
+by-known P p q r (Known i) (Known i') Missing Missing h k = q i i'
+by-known P p q r (Known i) (Known i') Missing (Known j') h k = absurd k
+by-known P p q r (Known i) (Known i') (Known j) Missing h k = absurd k
+by-known P p q r (Known i) (Known i') (Known j) (Known j') h k = r i i' j j' h k
 
-module _ (f : Interval → Interval → Interval) (alike : (i i' j j' : Interval) → SameEnds i i' → SameEnds j j' → f i j ≡ f i' j') where
-  join-alike : (d d' e e' : Dimension) → SameKnown d d' → SameKnown e e' → joinKnown f d e ≡ joinKnown f d' e'
-  unfolding joinKnown
-  join-alike Missing Missing e e' h k = refl
-  join-alike Missing (Known j) e e' h k = absurd h
-  join-alike (Known i) Missing e e' h k = absurd h
-  join-alike (Known i) (Known i') Missing Missing h k = refl
-  join-alike (Known i) (Known i') Missing (Known j) h k = absurd k
-  join-alike (Known i) (Known i') (Known j) Missing h k = absurd k
-  join-alike (Known i) (Known i') (Known j) (Known j') h k = ap (λ (l : Interval). Known l) (alike i i' j j' h k)
+test-alike : (f : Interval → Interval → Bool) → ((i i' j j' : Interval) → SameEnds i i' → SameEnds j j' → f i j ≡ f i' j')
+    → (d d' e e' : Dimension) → SameKnown d d' → SameKnown e e' → testKnown f d e ≡ testKnown f d' e'
+unfolding testKnown
+test-alike f alike = by-known (λ d d' e e'. testKnown f d e ≡ testKnown f d' e') (λ e e'. refl) (λ i i'. refl) alike
+
+join-alike : (f : Interval → Interval → Interval) → ((i i' j j' : Interval) → SameEnds i i' → SameEnds j j' → f i j ≡ f i' j')
+    → (d d' e e' : Dimension) → SameKnown d d' → SameKnown e e' → joinKnown f d e ≡ joinKnown f d' e'
+unfolding joinKnown
+join-alike f alike =
+    by-known (λ d d' e e'. joinKnown f d e ≡ joinKnown f d' e') (λ e e'. refl) (λ i i'. refl) (λ i i' j j' h k. ap (λ (l : Interval). Known l) (alike i i' j j' h k))
 
 module _ {a a' b b' : BoundingBox} (h : SameBox a a') (k : SameBox b b') where
   pub boxes-intersect-alike : intersects a b ≡ intersects a' b'
