@@ -1,3 +1,4 @@
 pub mod Canonical
+pub mod Instances
 pub mod Lists
 pub mod ThereAndBack

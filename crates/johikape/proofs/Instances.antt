@@ -1,0 +1,52 @@
+-- The hypotheses of the theorems on what crosses can be met: by boxes made of −0 and of +0, and by a record of such a box. Assumes nothing.
+use mathlib.Core.Path.{_≡_, refl}
+use mathlib.Core.List.{map}
+use lib.IntN.{pos}
+use lib.Ieee.{binary64, eq, fits, toBits}
+use Rattle.sedona_geometry.specs.BoundingBox.{Doubles, Canonical, EqualNumbers, xyzm}
+use Rattle.sedona_geometry.specs.declared.bounding_box.Dimension as Dimension
+use Rattle.sedona_geometry.specs.declared.bounding_box.Dimension.{Dimension}
+use Rattle.sedona_geometry.specs.declared.bounding_box.BoundingBox.{BoundingBox}
+use Rattle.sedona_geometry.proofs.Canonical.{xyzm-canonical}
+use Rattle.sedona_geometry.proofs.Instances as zeros
+use Rattle.sedona_expr.specs.declared.statistics.Bbox as Bbox
+use Rattle.sedona_expr.specs.declared.statistics.Bbox.{Bbox}
+use Rattle.sedona_expr.specs.declared.statistics.GeometryTypes as GeometryTypes
+use Rattle.sedona_expr.specs.declared.statistics.GeometryTypes.{GeometryTypes}
+use Rattle.sedona_expr.specs.declared.statistics.GeoStatistics.{GeoStatistics}
+use Rattle.sedona_expr.proofs.Instances.{reading}
+use Rattle.johikape.specs.Boxes as box
+use Rattle.johikape.specs.Records as rec
+use Rattle.johikape.proofs.Canonical.{same-bytes}
+use Rattle.johikape.proofs.ThereAndBack.{box-back-same, record-back-same}
+
+abbrev of-minus : BoundingBox
+of-minus = xyzm zeros.signed-x zeros.signed (Dimension.Known zeros.signed) Dimension.Missing
+
+abbrev of-plus : BoundingBox
+of-plus = xyzm zeros.unsigned-x zeros.unsigned (Dimension.Known zeros.unsigned) Dimension.Missing
+
+minus-canonical : Canonical of-minus
+minus-canonical = xyzm-canonical zeros.signed-x zeros.signed (Dimension.Known zeros.signed) Dimension.Missing
+
+pub box-crosses : box.read (box.doubles of-minus) (box.flag of-minus) ≡ Bbox.Known of-minus
+box-crosses = box-back-same of-minus minus-canonical
+
+abbrev with-box : GeoStatistics
+with-box = reading (Bbox.Known of-minus) GeometryTypes.Missing (pos 3)
+
+pub record-crosses : rec.readParts (rec.written with-box) ≡ with-box
+record-crosses = record-back-same with-box minus-canonical
+
+doubles : Doubles of-plus
+unfolding fits
+doubles = record { x = record { lo = tt; hi = tt }; y = record { lo = tt; hi = tt }; z = record { lo = tt; hi = tt }; m = tt }
+
+equal-numbers : EqualNumbers of-minus of-plus
+unfolding eq
+equal-numbers = record { x = record { lo = refl; hi = refl }; y = record { lo = refl; hi = refl }; z = record { lo = refl; hi = refl }; m = tt }
+
+pub one-key : (map (toBits binary64) (box.doubles of-minus) ≡ map (toBits binary64) (box.doubles of-plus)) × (box.flag of-minus ≡ box.flag of-plus)
+one-key =
+    same-bytes {a = of-minus} {b = of-plus} doubles doubles minus-canonical
+    (xyzm-canonical zeros.unsigned-x zeros.unsigned (Dimension.Known zeros.unsigned) Dimension.Missing) equal-numbers
