@@ -1,0 +1,3 @@
+pub mod Cents
+pub mod Limited
+pub mod Sizes
