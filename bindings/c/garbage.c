@@ -10,7 +10,11 @@
 #include <stdlib.h>
 #include <string.h>
 
-enum { MOST_ROOMS = 64, MOST_NODES = 1026, MOST_BYTES = 65536, NUMBERS = 18 };
+enum { MOST_ROOMS = 72, MOST_NODES = 1026, MOST_BYTES = 65536, NUMBERS = 20 };
+
+/* Of the tariff: the most sizes, the highest rate, and what 2^40 bytes, or 1,024 GiB, cost at it. */
+enum { MOST_SIZES = 1000, HIGHEST_RATE = 10000, HIGHEST_FEE = 1024 * HIGHEST_RATE };
+static const size_t LARGEST_SIZE = (size_t)1 << 40;
 
 /* Types of geometries in well-known binary. */
 enum { POINT = 1, LINE_STRING = 2, POLYGON = 3, COLLECTION = 7 };
@@ -79,6 +83,14 @@ static int64_t *totals(size_t count) {
     int64_t *list = room(count * sizeof *list);
     for (size_t i = 0; i < count; i++)
         list[i] = below(4) ? (int64_t)below(1000) : (int64_t)bits();
+    return list;
+}
+
+/* Sizes whose sum is near the largest size, now and then of any bits. */
+static int64_t *sizes(size_t count) {
+    int64_t *list = room(count * sizeof *list);
+    for (size_t i = 0; i < count; i++)
+        list[i] = (int64_t)(below(50 + 4 * count) ? below(2 * LARGEST_SIZE / count) : bits());
     return list;
 }
 
@@ -344,6 +356,49 @@ static void records(void) {
     leaves(name, given, &before_flags, out_flags, sizeof before_flags);
 }
 
+/* Three rates, now and then too high. */
+static uint32_t *rates(void) {
+    return words(3, HIGHEST_RATE + 2);
+}
+
+/* What has a fee costs no more than the largest size at the highest rate. */
+static void costs(const char *name, uint32_t given, uint64_t before, uint64_t after) {
+    gives(name, given, JOHIKAPE_BAD_RATE);
+    leaves(name, given, &before, &after, sizeof before);
+    if (given == JOHIKAPE_OK && after > HIGHEST_FEE)
+        fail(name, "a fee that is too high");
+}
+
+static void fees_of_records(void) {
+    const uint32_t *at = rates(), *record_flags = words(1, 8192);
+    int64_t *record_totals = totals(7);
+    uint64_t *cents = room(sizeof *cents);
+    const uint64_t before = *cents = bits();
+    if (below(4))
+        record_totals[1] = *sizes(1);
+    const uint32_t given = johikape_fee_of_record(doubles(10), record_totals, (uint32_t)bits(),
+                                                  *record_flags, at[0], at[1], at[2], cents);
+    costs("fee_of_record", given, before, *cents);
+}
+
+static void fees_of_sizes(void) {
+    const size_t count = below(50) ? below(12) : MOST_SIZES - 4 + below(8);
+    const size_t s = length(count), k = length(count);
+    const uint32_t *at = rates();
+    uint8_t *sizes_known = known(k);
+    /* Mostly all of them are. */
+    for (size_t i = 0; i < k && below(4 * k); i++)
+        sizes_known[i] = 1;
+    uint64_t *cents = room(sizeof *cents);
+    const uint64_t before = *cents = bits();
+    const uint32_t given = johikape_fee_of_sizes(sizes(s), s, sizes_known, k, at[0], at[1], at[2], cents);
+    costs("fee_of_sizes", given, before, *cents);
+    if (s != k && given != JOHIKAPE_BOXES)
+        fail("fee_of_sizes", "lists that do not fit");
+    if (s > MOST_SIZES && given != JOHIKAPE_BOXES && given != JOHIKAPE_BAD_SIZE)
+        fail("fee_of_sizes", "more sizes than it may take");
+}
+
 static void filters(void) {
     const size_t most = below(100) ? 12 : MOST_NODES;
     const size_t columns = below(50) ? 4 + below(4) : below(1000), literals = 4 + below(4);
@@ -399,12 +454,14 @@ int main(int count, char **arguments) {
         layouts();
         geometries();
         records();
+        fees_of_records();
+        fees_of_sizes();
         filters();
         searches();
         while (rooms_count > 0)
             free(rooms[--rooms_count]);
     }
-    printf("%lu rounds of garbage to 35 functions; answers and numbers:", rounds);
+    printf("%lu rounds of garbage to 37 functions; answers and numbers:", rounds);
     for (int i = 0; i < NUMBERS; i++)
         if (counts[i] > 0)
             printf(" %d: %lu", i, counts[i]);

@@ -61,7 +61,9 @@ enum johikape_number {
     JOHIKAPE_BAD_NUMBERS = 14, /* a NaN or an infinity, or a low above its high in y or z */
     JOHIKAPE_WKB_LENGTH = 15,  /* bytes too few, left over, or over 65,536 */
     JOHIKAPE_WKB_CODE = 16,    /* an unknown byte order, or a wrong type code */
-    JOHIKAPE_WKB_DEPTH = 17    /* a collection more than 32 deep */
+    JOHIKAPE_WKB_DEPTH = 17,   /* a collection more than 32 deep */
+    JOHIKAPE_BAD_SIZE = 18,    /* a size or the sum missing, negative or over 2^40, or over 1,000 sizes */
+    JOHIKAPE_BAD_RATE = 19     /* a rate over 10,000 cents */
 };
 
 /* What a test answers, where it is not refused. */
@@ -162,6 +164,27 @@ uint32_t johikape_fold(const double *doubles, size_t doubles_count,
                        const uint32_t *flags, size_t flags_count,
                        double out_doubles[10], int64_t out_totals[7], uint32_t *out_types,
                        uint32_t *out_flags);
+
+/* ---- fees, for bytes of files that a filter does not rule out: those up to 64 GiB at a first rate,
+ *      those above that to 512 GiB at a second, the rest at a third, each in whole cents for a GiB (2^30
+ *      bytes), at most 10,000. The bands are added exactly, then rounded once to the cent, halves upward:
+ *      2^29 bytes at 1 cent cost 1 cent. At most 2^40 bytes have a fee */
+
+/* The fee of a record, by its total of bytes, at three rates, into cents. 0; or JOHIKAPE_BOXES where
+ * flags are bad; then JOHIKAPE_BAD_SIZE where the total is missing, negative or over 2^40; then
+ * JOHIKAPE_BAD_RATE; and nothing is written. */
+uint32_t johikape_fee_of_record(const double doubles[10], const int64_t totals[7], uint32_t types,
+                                uint32_t flags, uint32_t first, uint32_t second, uint32_t third,
+                                uint64_t *cents);
+
+/* The fee of the sum of at most 1,000 sizes, 0 of none, at three rates, into cents. Each size has a known
+ * byte, 1 where it is known, 0 where it is missing and its number is not read. 0; or JOHIKAPE_BOXES
+ * where the counts differ or a known byte is bad; then JOHIKAPE_BAD_SIZE where a size or the sum is
+ * missing, negative or over 2^40, or there are more sizes; then JOHIKAPE_BAD_RATE; and nothing is
+ * written. */
+uint32_t johikape_fee_of_sizes(const int64_t *sizes, size_t sizes_count,
+                               const uint8_t *known, size_t known_count,
+                               uint32_t first, uint32_t second, uint32_t third, uint64_t *cents);
 
 /* ---- boxes */
 

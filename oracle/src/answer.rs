@@ -21,7 +21,8 @@ enum Part {
     /// Whether a search for a name has a hit.
     Hit(bool),
     Double(f64),
-    /// A count, a place, a type set by its bits, or the number before a record or a box.
+    /// A count, a place, a type set by its bits, a fee in cents, or the number before a record, a box
+    /// or a fee.
     Integer(u64),
     /// A total of a record.
     Total(i64),
@@ -118,6 +119,15 @@ impl Answer {
         array.resize(MOST_NUMBERS, 0.0);
         let numbers = array.into_iter().map(plus_zero).map(Part::Double);
         Answer(counts.into_iter().chain(numbers).collect())
+    }
+
+    /// The number 0 and a fee in cents; or the number that refuses it, and 0.
+    pub fn priced(result: Result<u64, u64>) -> Answer {
+        let words = match result {
+            Ok(cents) => [0, cents],
+            Err(number) => [number, 0],
+        };
+        Answer(words.map(Part::Integer).into())
     }
 
     fn joined(answers: impl IntoIterator<Item = Answer>) -> Answer {

@@ -5,10 +5,12 @@
 
 use crate::answer::Answer;
 use crate::calls::Call;
-use crate::filters::{Lookup, Tables, bounds, read_flag, read_list};
+use crate::filters::{Lookup, MOST_WORDS, Tables, bounds, read_flag, read_list};
 use crate::layouts::{from_geoparquet, to_geoparquet};
 use crate::names::{Many, find_name};
 use crate::operands::Lists;
+use crate::records;
+use crate::tariff::{ManySizes, Rates, fee_of_record, fee_of_sizes, read_size};
 use crate::text::{read, read_bytes, read_set};
 use crate::wkb::{MOST_BYTES, wkb_bounds};
 
@@ -68,6 +70,7 @@ impl Reader<'_> {
                 .or_else(|| self.search(name, operands))
                 .or_else(|| layout(name, operands))
                 .or_else(|| wkb(name, operands))
+                .or_else(|| tariff(name, operands))
                 .or_else(|| self.single(name, operands)),
             [] => None,
         };
@@ -153,6 +156,30 @@ fn padded(mut bytes: Vec<u8>, length: usize) -> Option<Vec<u8>> {
     }
     bytes.resize(length, 0);
     Some(bytes)
+}
+
+/// A call of the tariff: of a record, of sizes that are spelled, or of many.
+fn tariff(name: &str, operands: &[&str]) -> Option<String> {
+    let fee = match name.strip_prefix("scan_tariff::")? {
+        "fee_of_record" => {
+            let (record, rates) = operands.split_last_chunk()?;
+            fee_of_record(&records::read(record)?, read_rates(rates)?)
+        }
+        "fee_of_sizes" if operands.len() <= MOST_WORDS => {
+            let (rates, sizes) = operands.split_first_chunk()?;
+            fee_of_sizes(&read_list(sizes, read_size)?, read_rates(rates)?)
+        }
+        "fee_of_sizes_of_many" => {
+            let (rates, many) = operands.split_first_chunk()?;
+            fee_of_sizes(&ManySizes::read(many)?.sizes(), read_rates(rates)?)
+        }
+        _ => return None,
+    };
+    Some(Answer::priced(fee).text())
+}
+
+fn read_rates(words: &[&str; 3]) -> Option<Rates> {
+    read_list(words, read_set)?.try_into().ok()
 }
 
 /// A line with a list that was taken, or was none.

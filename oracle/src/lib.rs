@@ -16,6 +16,8 @@ pub mod random;
 pub mod records;
 pub mod refusals;
 pub mod shims;
+pub mod tariff;
+pub mod tariff_draws;
 pub mod text;
 pub mod wkb;
 pub mod wkb_draws;

@@ -3,7 +3,8 @@
 use crate::calls::Call;
 use crate::filters::{MOST_WORDS, Tables};
 use crate::operands::{Kind, MISSING};
-use crate::records::TOTALS;
+use crate::records::{SIZE_BYTES, TOTALS};
+use crate::tariff::write_size;
 use crate::text::{write_bytes, write_line, write_operands};
 
 /// Filter calls, those of the two layouts, those over many columns and those of bytes, which are
@@ -12,6 +13,12 @@ const FILTER_CALLS: usize = 3;
 const LAYOUT_CALLS: usize = 2;
 const MANY_CALLS: usize = 2;
 const WKB_CALLS: usize = 8;
+
+/// One in so many cases is of the tariff; these come last.
+const ONE_TARIFF_IN: usize = 8;
+
+/// The word of a record that has its bytes, behind a box and a type set.
+const SIZE_WORD: usize = 9 + SIZE_BYTES;
 
 /// The most bytes that are spelled, in a line of less than 1,000.
 const MOST_SPELLED: usize = 460;
@@ -28,7 +35,11 @@ pub fn cases(calls: &[Call], values: &[f64], seed: u64, count: usize) -> String 
     let layouts = calls.len() + FILTER_CALLS;
     let many = layouts + LAYOUT_CALLS;
     let wkb = many + MANY_CALLS;
-    let cases = (0..count).map(|_| {
+    let others = count - count / ONE_TARIFF_IN;
+    let cases = (0..count).map(|case| {
+        if case >= others {
+            return random.tariff_case();
+        }
         let place = random.below(wkb + WKB_CALLS);
         match calls.get(place) {
             Some(call) => write_line(&call.name, &random.words(&call.operands)),
@@ -157,6 +168,24 @@ impl Random<'_> {
         let mut words = vec![bytes.len().to_string()];
         words.extend(write_bytes(without_zeros(&bytes)));
         write_line("sedona_wkb::wkb_bounds_of_padded", &words)
+    }
+
+    /// The calls of the tariff, at the same rates.
+    fn tariff_case(&mut self) -> String {
+        let rates = self.rates().map(|rate| rate.to_string());
+        let mut record = self.words(&[Kind::Record]);
+        record[SIZE_WORD] = write_size(self.size());
+        record.extend_from_slice(&rates);
+        let mut sizes = self.sizes();
+        while rates.len() + sizes.len() > MOST_WORDS {
+            sizes = self.sizes();
+        }
+        let sizes: Vec<String> = sizes.into_iter().map(write_size).collect();
+        let sizes = [&rates[..], &sizes].concat();
+        let many = [&rates[..], &self.many_sizes().words()].concat();
+        write_line("scan_tariff::fee_of_record", &record)
+            + &write_line("scan_tariff::fee_of_sizes", &sizes)
+            + &write_line("scan_tariff::fee_of_sizes_of_many", &many)
     }
 
     /// The ends of a box, and its flag.

@@ -20,6 +20,9 @@ pub const TOTALS: [fn(&GeoStatistics) -> Option<i64>; 7] = [
     GeoStatistics::collection_count,
 ];
 
+/// The place of `total_size_bytes` among the totals.
+pub const SIZE_BYTES: usize = 1;
+
 pub const WITH_TOTAL: [fn(GeoStatistics, i64) -> GeoStatistics; 7] = [
     GeoStatistics::with_total_geometries,
     GeoStatistics::with_total_size_bytes,
@@ -67,11 +70,19 @@ fn with_known<T>(
 ) -> Option<GeoStatistics> {
     let mut record = record;
     for (word, with) in words.iter().zip(with) {
-        if *word != MISSING {
-            record = with(record, read(word)?);
+        if let Some(value) = read_known(word, read)? {
+            record = with(record, value);
         }
     }
     (words.len() == with.len()).then_some(record)
+}
+
+/// What a word spells, which can be missing.
+pub fn read_known<T>(word: &str, read: fn(&str) -> Option<T>) -> Option<Option<T>> {
+    match word {
+        MISSING => Some(None),
+        _ => read(word).map(Some),
+    }
 }
 
 /// A record with another merged in. The merge is of a copy: where it fails, the record stays.

@@ -16,8 +16,9 @@ Here a file of readings on a compost site has two parts, with degrees as m; want
 
 `evaluate_by_position`, `evaluate_by_name`, `filter_bbox` and `merge` are methods, and functions of
 the same names here. `Records` and `evaluate` read whole tables in buffers, without copying.
-`find_name` is the search that each leaf makes by name. A zero at an end of what is given is +0, so two
-boxes without NaN that are equal have the same bytes.
+`find_name` is the search that each leaf makes by name. `GeoStatistics.fee` and `fee_of_sizes` say
+what it costs, at `Rates`, to read files that may match. A zero at an end of what is given is +0, so
+two boxes without NaN that are equal have the same bytes.
 
 The work is done by a library in which each function is proved to give what its definition says.
 What it refuses is raised as `Refusal`, with a number. No call keeps anything, and other threads run
@@ -31,6 +32,7 @@ from .records import Records, fold
 from .refusal import Refusal
 from .spatial_filter import Column, Evaluation, Filter, Tables, evaluate
 from .statistics import GeoStatistics
+from .tariff import Rates, fee_of_sizes
 
 evaluate_by_position = Filter.evaluate_by_position
 evaluate_by_name = Filter.evaluate_by_name
@@ -45,6 +47,7 @@ __all__ = [
     "GeoStatistics",
     "Interval",
     "NameSearch",
+    "Rates",
     "Records",
     "Refusal",
     "Tables",
@@ -52,6 +55,7 @@ __all__ = [
     "evaluate",
     "evaluate_by_name",
     "evaluate_by_position",
+    "fee_of_sizes",
     "filter_bbox",
     "find_name",
     "fold",

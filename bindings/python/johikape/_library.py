@@ -28,6 +28,8 @@ _SIGNATURES = {
     "filter_bbox": (c_uint32, _LIST * 3 + [c_uint32, c_void_p, c_void_p]),
     "merge": (c_uint32, [c_void_p] * 6 + [c_uint32, c_uint32]),
     "fold": (c_uint32, _LIST * 4 + [c_void_p] * 4),
+    "fee_of_record": (c_uint32, [c_void_p] * 2 + [c_uint32] * 5 + [c_void_p]),
+    "fee_of_sizes": (c_uint32, _LIST * 2 + [c_uint32] * 3 + [c_void_p]),
     "box_intersects": (c_uint32, _BOX * 2),
     "box_contains": (c_uint32, _BOX * 2),
     "box_merge": (c_uint32, [c_void_p, c_void_p] + _BOX),

@@ -21,6 +21,8 @@ _SENTENCES = {
     15: "bytes of well-known binary are too few, left over, or over 65,536",
     16: "well-known binary has an unknown byte order or a wrong type code",
     17: "well-known binary has a collection more than 32 deep",
+    18: "a size or the sum is missing, negative or over 2**40, or there are over 1,000 sizes",
+    19: "a rate is over 10,000 cents",
 }
 
 

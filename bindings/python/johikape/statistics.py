@@ -2,7 +2,7 @@
 
 from __future__ import annotations
 
-from ctypes import byref, c_double, c_int64, c_uint32
+from ctypes import byref, c_double, c_int64, c_uint32, c_uint64
 from dataclasses import dataclass
 from typing import Any, Callable, Dict, Optional, Tuple
 
@@ -10,6 +10,7 @@ from ._library import library
 from ._values import Value, double, signed, unsigned
 from .bounding_box import BOX, BOX_FLAGS, ENDS, BoundingBox, box_of, ends_of, flags_of
 from .refusal import accept
+from .tariff import Rates, bands
 
 # The totals and lengths in the order in which the library has them, with their flags.
 TYPES = 8
@@ -98,6 +99,20 @@ class GeoStatistics(Value):
             )
         )
         return parts.record()
+
+    def fee(self, rates: Rates) -> int:
+        """The fee for reading its bytes, in cents: that of `total_size_bytes`, as `Rates` says.
+
+        `Refusal` 18 where `total_size_bytes` is missing, negative or over 2**40; then 19 where a
+        rate is over 10,000.
+
+        >>> GeoStatistics(total_size_bytes=2**29).fee(Rates(1, 1, 1))  # half a cent, upward
+        1
+        """
+        parts, cents = Parts.of(self), c_uint64()
+        record = parts.doubles, parts.totals, parts.types, parts.flags
+        accept(library.johikape_fee_of_record(*record, *bands(rates), byref(cents)))
+        return cents.value
 
 
 def _known(taken: Callable[[Any, str], Any], value: Any, name: str) -> Any:

@@ -279,7 +279,7 @@ class Refusals(unittest.TestCase):
         self.assertIs(tables.evaluate(box, b"\0", types, b"\0"), MAY)
 
     def test_every_number_has_its_sentence(self):
-        for number in (1, 3, 4, 5, 7, 8, 9, 10, 11):
+        for number in (1, 3, 4, 5, *range(7, 20)):
             self.assertRegex(str(Refusal(number)), rf"^refused by {number}: [a-z]")
             self.assertNotIn("does not know", Refusal(number).sentence)
         for number in (2, 6, 99):

@@ -22,6 +22,7 @@ from johikape import (
     GeoStatistics,
     Interval,
     NameSearch,
+    Rates,
     Refusal,
     fold,
 )
@@ -115,6 +116,7 @@ class Values(unittest.TestCase):
         Filter.has_z(Column(0, 6)),
         NameSearch(1, 2),
         NameSearch(None, 3),
+        Rates(7, 5, 3),
     ]
 
     def test_shown_as_written(self):

@@ -1,10 +1,11 @@
 //! Calls of the library over this crate's values.
 
 use crate::filter::Evaluation;
-use crate::layout::{Boxes, Columns, Ends, Record, Records};
+use crate::layout::{Boxes, Columns, Ends, Record, Records, Sizes};
 use crate::name_search::NameSearch;
 use crate::raw;
 use crate::refusal::Refusal;
+use crate::tariff::Rates;
 
 /// Why a box that this crate laid out is never refused by 8.
 const GOOD_FLAGS: &str = "the flags of a box are good";
@@ -96,6 +97,34 @@ pub(crate) fn fold(records: &Records) -> Result<Record, Refusal> {
         &mut folded.flags,
     );
     Refusal::check(number).map(|()| folded)
+}
+
+pub(crate) fn fee_of_record(record: &Record, rates: Rates) -> Result<u64, Refusal> {
+    let mut cents = 0;
+    let number = raw::johikape_fee_of_record(
+        &record.doubles,
+        &record.totals,
+        record.types,
+        record.flags,
+        rates.first,
+        rates.second,
+        rates.third,
+        &mut cents,
+    );
+    Refusal::check(number).map(|()| cents)
+}
+
+pub(crate) fn fee_of_sizes(sizes: &Sizes, rates: Rates) -> Result<u64, Refusal> {
+    let mut cents = 0;
+    let number = raw::fee_of_sizes(
+        &sizes.bytes,
+        &sizes.known,
+        rates.first,
+        rates.second,
+        rates.third,
+        &mut cents,
+    );
+    Refusal::check(number).map(|()| cents)
 }
 
 /// What an evaluation answers. The numbers that refuse one begin at 4, so none of them is 0 or 1.

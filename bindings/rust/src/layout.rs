@@ -1,4 +1,4 @@
-//! Boxes and records as the library reads and writes them: numbers, and flags that say what is
+//! Boxes, records and sizes as the library reads and writes them: numbers, and flags that say what is
 //! known. What is not known is laid out as 0 and not read.
 
 use crate::bounding_box::BoundingBox;
@@ -209,5 +209,20 @@ impl Records {
             lists.flags.push(record.flags);
         }
         lists
+    }
+}
+
+/// A list of sizes: numbers of bytes, and 1 where the number is known.
+pub(crate) struct Sizes {
+    pub(crate) bytes: Vec<i64>,
+    pub(crate) known: Vec<u8>,
+}
+
+impl Sizes {
+    pub(crate) fn of(sizes: &[Option<i64>]) -> Sizes {
+        Sizes {
+            bytes: sizes.iter().map(|size| size.unwrap_or_default()).collect(),
+            known: sizes.iter().map(|size| size.is_some().into()).collect(),
+        }
     }
 }

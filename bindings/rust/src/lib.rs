@@ -18,6 +18,8 @@
 //! # Ok::<(), johikape::Refusal>(())
 //! ```
 //!
+//! What it costs to read files that may match, [`GeoStatistics::fee`] and [`fee_of_sizes`] say.
+//!
 //! # What is proved
 //!
 //! The answers are those of a library each of whose functions is proved to give what its definition
@@ -59,6 +61,7 @@ mod name_search;
 pub mod raw;
 mod refusal;
 mod statistics;
+mod tariff;
 
 pub use bounding_box::BoundingBox;
 pub use filter::{Column, CompiledFilter, Evaluation, Filter};
@@ -66,3 +69,4 @@ pub use interval::{Interval, WraparoundInterval};
 pub use name_search::{NameSearch, find_name};
 pub use refusal::Refusal;
 pub use statistics::{GeoStatistics, fold};
+pub use tariff::{Rates, fee_of_sizes};

@@ -5,7 +5,7 @@
 //! pointer, writes only through what is `&mut` below, and gives a bad value a number. So a call is
 //! sound where each pointer is good for what its type and count say, and where what is written
 //! overlaps no other argument. Arguments that are references are both by their type, and the
-//! functions that take nothing else are declared `safe`. The seven that take lists as pointers and
+//! functions that take nothing else are declared `safe`. The eight that take lists as pointers and
 //! counts are called here alone, over slices.
 
 #![allow(missing_docs)]
@@ -112,6 +112,28 @@ unsafe extern "C" {
         out_flags: &mut u32,
     ) -> u32;
 
+    pub safe fn johikape_fee_of_record(
+        doubles: &[f64; 10],
+        totals: &[i64; 7],
+        types: u32,
+        flags: u32,
+        first: u32,
+        second: u32,
+        third: u32,
+        cents: &mut u64,
+    ) -> u32;
+
+    fn johikape_fee_of_sizes(
+        sizes: *const i64,
+        sizes_count: usize,
+        known: *const u8,
+        known_count: usize,
+        first: u32,
+        second: u32,
+        third: u32,
+        cents: &mut u64,
+    ) -> u32;
+
     fn johikape_evaluate_by_position(
         nodes: *const u32,
         nodes_count: usize,
@@ -169,7 +191,7 @@ unsafe extern "C" {
     ) -> u32;
 }
 
-// SAFETY, of the seven below: each pointer and count are those of one slice, which is lent for the
+// SAFETY, of the eight below: each pointer and count are those of one slice, which is lent for the
 // whole call and only read. What is written is borrowed by the call alone.
 
 /// `johikape_box_from_geoparquet`.
@@ -211,6 +233,30 @@ pub fn fold(
             out_totals,
             out_types,
             out_flags,
+        )
+    }
+}
+
+/// `johikape_fee_of_sizes`.
+#[inline]
+pub fn fee_of_sizes(
+    sizes: &[i64],
+    known: &[u8],
+    first: u32,
+    second: u32,
+    third: u32,
+    cents: &mut u64,
+) -> u32 {
+    unsafe {
+        johikape_fee_of_sizes(
+            sizes.as_ptr(),
+            sizes.len(),
+            known.as_ptr(),
+            known.len(),
+            first,
+            second,
+            third,
+            cents,
         )
     }
 }

@@ -55,6 +55,10 @@ pub enum Refusal {
     WkbCode = 16,
     /// 17: well-known binary with a collection more than 32 deep.
     WkbDepth = 17,
+    /// 18: a size or the sum missing, negative or over 2^40 bytes, or over 1,000 sizes.
+    BadSize = 18,
+    /// 19: a rate over 10,000 cents.
+    BadRate = 19,
 }
 
 impl Refusal {
@@ -87,6 +91,10 @@ impl Refusal {
             }
             Refusal::WkbCode => "well-known binary has an unknown byte order or a wrong type code",
             Refusal::WkbDepth => "well-known binary has a collection more than 32 deep",
+            Refusal::BadSize => {
+                "a size or the sum is missing, negative or over 2^40, or there are over 1,000 sizes"
+            }
+            Refusal::BadRate => "a rate is over 10,000 cents",
         }
     }
 
@@ -114,6 +122,8 @@ impl Refusal {
             15 => Refusal::WkbLength,
             16 => Refusal::WkbCode,
             17 => Refusal::WkbDepth,
+            18 => Refusal::BadSize,
+            19 => Refusal::BadRate,
             _ => panic!("the linked johikape answered {number}, which its header does not list"),
         })
     }
@@ -134,7 +144,7 @@ mod tests {
     #[test]
     fn each_number_is_that_of_its_refusal() {
         assert_eq!(Refusal::check(0), Ok(()));
-        for number in [1, 3, 4, 5, 7, 8, 9, 10, 11, 12, 13, 14, 15, 16, 17] {
+        for number in [1, 3, 4, 5].into_iter().chain(7..=19) {
             let refusal = Refusal::check(number).unwrap_err();
             assert_eq!(refusal.number(), number);
             let words = refusal.to_string();

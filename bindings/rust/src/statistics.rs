@@ -1,9 +1,10 @@
-//! Records: statistics of a column, and their merge and fold.
+//! Records: statistics of a column, their merge and fold, and what reading their bytes costs.
 
 use crate::bounding_box::BoundingBox;
 use crate::calls;
 use crate::layout::{Record, Records};
 use crate::refusal::Refusal;
+use crate::tariff::Rates;
 
 /// The record of a column: a box around its geometries, their types, and totals over them.
 ///
@@ -112,6 +113,25 @@ impl GeoStatistics {
         let merged = calls::merge(Record::of(self), &Record::of(other))?;
         *self = merged.statistics();
         Ok(())
+    }
+
+    /// The fee for reading its bytes, in cents: that of `total_size_bytes`, as [`Rates`] says.
+    ///
+    /// # Errors
+    ///
+    /// [`Refusal::BadSize`] where `total_size_bytes` is missing, negative or over 2^40; then
+    /// [`Refusal::BadRate`] where a rate is over 10,000.
+    ///
+    /// ```
+    /// # use johikape::{GeoStatistics, Rates, Refusal};
+    /// let rates = Rates { first: 1, second: 1, third: 1 };
+    /// let file = GeoStatistics { total_size_bytes: Some(1 << 29), ..GeoStatistics::UNSPECIFIED };
+    /// assert_eq!(file.fee(rates)?, 1); // half a cent, rounded upward
+    /// assert_eq!(GeoStatistics::UNSPECIFIED.fee(rates), Err(Refusal::BadSize));
+    /// # Ok::<(), Refusal>(())
+    /// ```
+    pub fn fee(&self, rates: Rates) -> Result<u64, Refusal> {
+        calls::fee_of_record(&Record::of(self), rates)
     }
 }
 

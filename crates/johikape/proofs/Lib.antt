@@ -1,4 +1,5 @@
 pub mod Canonical
 pub mod Instances
 pub mod Lists
+pub mod Sizes
 pub mod ThereAndBack

@@ -3,4 +3,5 @@ pub mod Filters
 pub mod Intervals
 pub mod Layouts
 pub mod Records
+pub mod Tariff
 pub mod Wkb

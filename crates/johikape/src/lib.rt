@@ -6,4 +6,5 @@ pub mod filters;
 pub mod intervals;
 pub mod layouts;
 pub mod records;
+pub mod tariff;
 pub mod wkb;

@@ -44,7 +44,7 @@ fn types_of(known: bool, bits: u32) -> GeometryTypes
 }
 
 // The total at a place.
-fn total_at(known: bool, totals: &[i64], at: usize) -> Total
+pub(crate) fn total_at(known: bool, totals: &[i64], at: usize) -> Total
     requires { ⌜ at < length (now totals) ⌝ }
     ensures { λ r. ⌜ r ≡ records.totalOf known (getD (now (totals .entry)) at (pos 0)) ⌝ }
 {
@@ -66,7 +66,7 @@ fn extent_at(known: bool, doubles: &[f64], at: usize) -> Extent
 }
 
 // The record of ten doubles, seven totals, a type set and flags.
-fn read(doubles: &[f64], totals: &[i64], types: u32, flags: u32) -> GeoStatistics
+pub(crate) fn read(doubles: &[f64], totals: &[i64], types: u32, flags: u32) -> GeoStatistics
     requires { ⌜ (10 ≤ length (now doubles)) × (7 ≤ length (now totals)) ⌝ }
     ensures { λ r. ⌜ r ≡ records.read (now (doubles .entry)) (now (totals .entry)) types flags ⌝ }
 {
@@ -86,7 +86,7 @@ fn read(doubles: &[f64], totals: &[i64], types: u32, flags: u32) -> GeoStatistic
 }
 
 // No flags but those above, and of the box 0, 1, 3, 5 or 7.
-fn are_good(flags: u32) -> bool
+pub(crate) fn are_good(flags: u32) -> bool
     ensures { λ r. ⌜ r ≡ records.goodFlags flags ⌝ }
 {
     if flags >= 8192 {

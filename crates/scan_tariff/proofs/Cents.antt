@@ -1,6 +1,5 @@
--- Bands and rounding: the bands add up to the bytes, the nearest cent is within half a cent and is the only such, and both grow. Assumes
--- nothing.
-use mathlib.Core.Path.{_≡_, refl}
+-- Rates that pass, and rounding: the nearest cent is within half a cent, is the only such, and grows. Assumes nothing.
+use mathlib.Core.Path.{_≡_, refl, sym}
 use mathlib.Core.Bool.{Bool, true, false, not, _||_, cond}
 use Prim.Native.Nat.{ℕ, suc, _+_, _*_, _/_, _%_, _≤_, _<_}
 use native.Mathlib.Nat.{add-le-add, mul-le-mul, mul-le-mul-right, mod-lt, div-add-mod'}
@@ -9,14 +8,10 @@ use borrow.Author.Tests.{ltb-false}
 use lib.Dec.{T, ltb, ltb→lt, nltb→le, lit<}
 use Rattle.sedona_expr.specs.Refusals.{when}
 use Rattle.scan_tariff.specs.Error as error
-use Rattle.scan_tariff.specs.Tariff.{gib, mostBytes, ratesRefusal, firstBand, secondBand, thirdBand, exact, nearestCent, cents, difference, Nearest}
+use Rattle.scan_tariff.specs.Tariff.{gib, mostBytes, ratesRefusal, firstBand, secondBand, thirdBand, exact, nearestCent, cents, Nearest}
 use Rattle.scan_tariff.specs.declared.tariff.Rates.{Rates}
 
 -- ---- bands
-
--- The bands add up to the bytes.
-pub bands-add-up : (n : ℕ) → firstBand n + secondBand n + thirdBand n ≡ n
-bands-add-up n = omega arith
 
 exact-grows : (m n : ℕ) (r : Rates) → m ≤ n → exact m r ≤ exact n r
 unfolding exact
@@ -48,19 +43,19 @@ nearest e = go (ltb (2 * (e % gib)) gib) (ltb→lt (2 * (e % gib)) gib) (nltb→
     go true h k = let d = div-add-mod' e gib in let l = h tt in record { below = omega arith; above = omega arith }
     go false h k = let d = div-add-mod' e gib in let l = k tt in let m = mod-lt e {m = gib} (lit< tt) in record { below = omega arith; above = omega arith }
 
--- There is one alone: a half goes upward.
+-- there is one alone
 pub nearest-only : (e c : ℕ) → Nearest e c → c ≡ nearestCent e
 nearest-only e c n = let m = nearest e in omega arith
 
 nearest-grows : (e f : ℕ) → e ≤ f → nearestCent e ≤ nearestCent f
 nearest-grows e f l = let m = nearest e in let n = nearest f in omega arith
 
--- ---- fees
-
--- More bytes at the same rates never cost less.
 pub cents-grow : (m n : ℕ) (r : Rates) → m ≤ n → cents m r ≤ cents n r
 cents-grow m n r l = nearest-grows (exact m r) (exact n r) (exact-grows m n r l)
 
--- The rounded fee is at most half a cent from the exact one: twice their difference, times 2^30, is at most 2^30.
-pub half-a-cent : (n : ℕ) (r : Rates) → 2 * difference (cents n r * gib) (exact n r) ≤ gib
-half-a-cent n r = let m = nearest (exact n r) in omega arith
+-- a band of whole GiB costs whole cents
+pub whole-band : (k r w : ℕ) → k ≡ w * gib → (k * r ≡ w * r * gib) × (nearestCent (k * r) ≡ w * r)
+whole-band k r w e = (whole, sym (nearest-only (k * r) (w * r) (record { below = omega (arith, whole); above = omega (arith, whole) })))
+  where
+    whole : k * r ≡ w * r * gib
+    whole = rw e (omega arith)

@@ -1,3 +1,4 @@
 pub mod Cents
 pub mod Limited
 pub mod Sizes
+pub mod Theorems

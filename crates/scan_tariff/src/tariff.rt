@@ -21,7 +21,7 @@ const SECOND_END: u64 = 549755813888;
 // The most bytes that are billed, 2^40; the most sizes in a list; the highest rate.
 const MOST_BYTES: i64 = 1099511627776;
 
-const MOST_SIZES: usize = 1000;
+pub const MOST_SIZES: usize = 1000;
 
 const HIGHEST_RATE: u32 = 10000;
 

@@ -94,7 +94,7 @@ fn boxes_refusal(none: bool, doubles: &[f64], flags: &[u8]) -> u32
 }
 
 // Whether every byte is 0 or 1.
-fn are_zero_or_one(bytes: &[u8]) -> bool
+pub fn are_zero_or_one(bytes: &[u8]) -> bool
     ensures { λ r. ⌜ r ≡ refusals.all (λ b. ltb b 2) (now (bytes .entry)) ⌝ }
 {
     let mut i = 0;

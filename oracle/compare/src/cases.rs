@@ -4,8 +4,11 @@ use crate::layout::{BOX_FLAGS, Bounds, PARTS, Record, Records};
 use johikape::Interval;
 use oracle::bounding_box::BoundingBox;
 use oracle::cases::VALUES;
+use oracle::filter_draws::put;
 use oracle::filters::{Boxes, Tables};
 use oracle::random::Random;
+use oracle::records::SIZE_BYTES;
+use oracle::tariff::Rates;
 use std::array;
 use std::fmt::Display;
 
@@ -196,6 +199,67 @@ fn resize<T: Default>(list: &mut Vec<T>, is_longer: bool) {
     } else {
         list.pop();
     }
+}
+
+/// For the calls of the tariff: rates, a record, and sizes that are not its own.
+pub struct TariffCase {
+    pub rates: Rates,
+    pub record: Record,
+    pub sizes: Vec<i64>,
+    pub known: Vec<u8>,
+}
+
+impl TariffCase {
+    /// The sizes; none where the lists do not fit or a known byte is bad.
+    pub fn to_rust(&self) -> Option<Vec<Option<i64>>> {
+        if self.sizes.len() != self.known.len() {
+            return None;
+        }
+        let size = |(size, known): (&i64, &u8)| match known {
+            0 => Some(None),
+            1 => Some(Some(*size)),
+            _ => None,
+        };
+        self.sizes.iter().zip(&self.known).map(size).collect()
+    }
+}
+
+impl Case for TariffCase {
+    /// The record's bytes are a drawn size, or now and then any total; where a size is missing, any
+    /// total stands. Of eight cases one has a bad known byte, or a list that is too short or too long.
+    fn draw(random: &mut Random) -> Self {
+        let doubles = random.doubles(10, 10);
+        let mut record = record(random, &doubles, 8);
+        if let Some(size) = random.size() {
+            record.totals[SIZE_BYTES] = size;
+        }
+        let drawn = random.sizes();
+        let mut sizes: Vec<i64> = drawn
+            .iter()
+            .map(|size| size.unwrap_or_else(|| random.total(true)))
+            .collect();
+        let mut known: Vec<u8> = drawn.iter().map(|size| size.is_some().into()).collect();
+        let is_longer = random.below(2) == 0;
+        match random.below(32) {
+            0 => resize(&mut sizes, is_longer),
+            1 => resize(&mut known, is_longer),
+            2 | 3 => spoil_known(random, &mut known),
+            _ => {}
+        }
+        TariffCase {
+            rates: random.rates(),
+            record,
+            sizes,
+            known,
+        }
+    }
+}
+
+/// Makes a known byte a bad one, where there is one.
+fn spoil_known(random: &mut Random, known: &mut [u8]) {
+    let place = random.below(known.len());
+    let bad = [2, 255, random.bits() as u8 | 2];
+    put(known, place, bad[random.below(bad.len())]);
 }
 
 /// For a call of a filter: its tables, and a name.

@@ -85,7 +85,7 @@ pub const EVALUATION: Words = ["cannot match", "may match"];
 pub const NUMBER: Words = ["given", "refused 1"];
 
 /// A number that a call gives is below this.
-const NUMBERS: usize = 18;
+const NUMBERS: usize = 20;
 
 /// A call by the library and by the Rust, and how often it gave each number.
 pub struct Call<C> {

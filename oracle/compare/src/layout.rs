@@ -127,6 +127,18 @@ impl Found {
     }
 }
 
+/// What a call of the tariff writes.
+#[derive(Clone, Copy)]
+pub struct Fee {
+    pub cents: u64,
+}
+
+impl Fee {
+    pub const PATTERN: Fee = Fee {
+        cents: u64::from_ne_bytes([PATTERN; 8]),
+    };
+}
+
 /// A record; also all that any call writes or gives, which uses some of its parts.
 #[derive(Clone, Copy)]
 pub struct Record {
@@ -277,6 +289,15 @@ impl From<Found> for Record {
         let mut record = Record::NONE;
         record.totals[0] = found.place as i64;
         record.totals[1] = found.compared as i64;
+        record
+    }
+}
+
+/// With the cents as a total.
+impl From<Fee> for Record {
+    fn from(fee: Fee) -> Record {
+        let mut record = Record::NONE;
+        record.totals[0] = fee.cents.cast_signed();
         record
     }
 }

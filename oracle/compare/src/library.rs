@@ -3,6 +3,7 @@
 use crate::layout::{Record, Records};
 use johikape::raw;
 use oracle::filters::Tables;
+use oracle::tariff::Rates;
 
 pub fn merge(record: &mut Record, other: &Record) -> u32 {
     raw::johikape_merge(
@@ -28,6 +29,25 @@ pub fn fold(records: &Records, out: &mut Record) -> u32 {
         &mut out.types,
         &mut out.flags,
     )
+}
+
+pub fn fee_of_record(record: &Record, rates: Rates, cents: &mut u64) -> u32 {
+    let [first, second, third] = rates;
+    raw::johikape_fee_of_record(
+        &record.doubles,
+        &record.totals,
+        record.types,
+        record.flags,
+        first,
+        second,
+        third,
+        cents,
+    )
+}
+
+pub fn fee_of_sizes(sizes: &[i64], known: &[u8], rates: Rates, cents: &mut u64) -> u32 {
+    let [first, second, third] = rates;
+    raw::fee_of_sizes(sizes, known, first, second, third, cents)
 }
 
 pub fn evaluate_by_position(tables: &Tables) -> u32 {

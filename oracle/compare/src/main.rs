@@ -10,6 +10,7 @@ mod layout;
 mod library;
 mod records;
 mod show;
+mod tariff;
 mod wkb;
 
 use compared::Group;
@@ -29,6 +30,10 @@ const TURNS: [usize; 9] = [0, 0, 1, 1, 2, 3, 4, 5, 6];
 /// The group of wide tables, which are made slowly: of so many turns it has one.
 const WIDE: usize = 7;
 const ONE_WIDE_IN: usize = 32;
+
+/// The group of the tariff. One in so many calls is its own; these come last.
+const TARIFF: usize = 8;
+const ONE_TARIFF_IN: u64 = 8;
 
 fn main() -> ExitCode {
     let Some((seed, count)) = read_arguments() else {
@@ -59,7 +64,7 @@ fn read_arguments() -> Option<(u64, u64)> {
 
 /// Makes the calls; gives the table of what they gave, or the first difference.
 fn compare(seed: u64, count: u64) -> Result<String, String> {
-    let mut groups: [Box<dyn Group>; 8] = [
+    let mut groups: [Box<dyn Group>; 9] = [
         Box::new(intervals::calls()),
         Box::new(boxes::calls()),
         Box::new(records::merges()),
@@ -68,14 +73,17 @@ fn compare(seed: u64, count: u64) -> Result<String, String> {
         Box::new(geoparquet::calls()),
         Box::new(wkb::calls()),
         Box::new(filters::wide_calls()),
+        Box::new(tariff::calls()),
     ];
     let values = cases::values();
     let mut random = Random::new(seed, &values);
+    let others = count - count / ONE_TARIFF_IN;
     let mut made = 0;
     while made < count {
-        let place = match random.below(ONE_WIDE_IN) {
-            0 => WIDE,
-            _ => TURNS[random.below(TURNS.len())],
+        let place = if made < others {
+            turn(&mut random)
+        } else {
+            TARIFF
         };
         let more = groups[place].compare(&mut random);
         made += more.map_err(|case| format!("seed {seed}, after {made} calls: {case}"))?;
@@ -85,4 +93,12 @@ fn compare(seed: u64, count: u64) -> Result<String, String> {
     Ok(format!(
         "{table}{minus_zeros} of the ends and numbers given are -0\n{made} calls agree (seed {seed})\n"
     ))
+}
+
+/// The group that is next.
+fn turn(random: &mut Random) -> usize {
+    match random.below(ONE_WIDE_IN) {
+        0 => WIDE,
+        _ => TURNS[random.below(TURNS.len())],
+    }
 }

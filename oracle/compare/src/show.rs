@@ -1,6 +1,8 @@
 //! Cases and what calls gave, as text: each double by its bits and as a number.
 
-use crate::cases::{BoxCase, FilterCase, IntervalCase, LayoutCase, RecordCase, WideCase, WkbCase};
+use crate::cases::{
+    BoxCase, FilterCase, IntervalCase, LayoutCase, RecordCase, TariffCase, WideCase, WkbCase,
+};
 use crate::layout::{Bounds, Record, Records};
 use johikape::Interval;
 use oracle::filters::Boxes;
@@ -81,6 +83,13 @@ impl Display for Records {
         writeln!(f, "flags: {:?}\ntypes: {:?}", self.flags, self.types)?;
         writeln!(f, "totals: {:?}", self.totals)?;
         write!(f, "doubles: {}", doubles(&self.doubles))
+    }
+}
+
+impl Display for TariffCase {
+    fn fmt(&self, f: &mut Formatter<'_>) -> Result {
+        writeln!(f, "rates: {:?}\nrecord:{}", self.rates, self.record)?;
+        write!(f, "sizes: {:?}\nknown: {:?}", self.sizes, self.known)
     }
 }
 
