@@ -160,19 +160,15 @@ fn padded(mut bytes: Vec<u8>, length: usize) -> Option<Vec<u8>> {
 
 /// A call of the tariff: of a record, of sizes that are spelled, or of many.
 fn tariff(name: &str, operands: &[&str]) -> Option<String> {
-    let fee = match name.strip_prefix("scan_tariff::")? {
-        "fee_of_record" => {
-            let (record, rates) = operands.split_last_chunk()?;
-            fee_of_record(&records::read(record)?, read_rates(rates)?)
-        }
+    let call = name.strip_prefix("scan_tariff::")?;
+    let (rates, of) = operands.split_first_chunk()?;
+    let rates = read_rates(rates)?;
+    let fee = match call {
+        "fee_of_record" => fee_of_record(&records::read(of)?, rates),
         "fee_of_sizes" if operands.len() <= MOST_WORDS => {
-            let (rates, sizes) = operands.split_first_chunk()?;
-            fee_of_sizes(&read_list(sizes, read_size)?, read_rates(rates)?)
+            fee_of_sizes(&read_list(of, read_size)?, rates)
         }
-        "fee_of_sizes_of_many" => {
-            let (rates, many) = operands.split_first_chunk()?;
-            fee_of_sizes(&ManySizes::read(many)?.sizes(), read_rates(rates)?)
-        }
+        "fee_of_sizes_of_many" => fee_of_sizes(&ManySizes::read(of)?.sizes(), rates),
         _ => return None,
     };
     Some(Answer::priced(fee).text())

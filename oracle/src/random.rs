@@ -175,7 +175,7 @@ impl Random<'_> {
         let rates = self.rates().map(|rate| rate.to_string());
         let mut record = self.words(&[Kind::Record]);
         record[SIZE_WORD] = write_size(self.size());
-        record.extend_from_slice(&rates);
+        let record = [&rates[..], &record].concat();
         let mut sizes = self.sizes();
         while rates.len() + sizes.len() > MOST_WORDS {
             sizes = self.sizes();

@@ -56,7 +56,7 @@ module _ {M : Type 1} (𝓤 : URA M) (H : Heap 𝓤) (A : Atoms 𝓤) (W : Given
   every xs o = parts (mem R) (shares R) fullShare xs b o
 
   -- those after the first k
-  abbrev after : ℕ → List (R .Denot) → ℕ → Fml
+  abbrev pub after : ℕ → List (R .Denot) → ℕ → Fml
   after zero xs o = every xs o
   after (suc k) [] o = ftrue
   after (suc k) (x ∷ xs) o = after k xs (o + mem R .size)
@@ -74,22 +74,22 @@ module _ {M : Type 1} (𝓤 : URA M) (H : Heap 𝓤) (A : Atoms 𝓤) (W : Given
       (monoR 𝓤 (sem 𝓤 H A (partAt R fullShare x b o)) (joined k xs (o + mem R .size)))
 
   -- as what a slice borrows
-  abbrev first : ℕ → List (R .Denot) → Fml
+  abbrev pub first : ℕ → List (R .Denot) → Fml
   first k xs = arr-parts (shares R) (length (take k xs)) .part fullShare (take k xs) b 0
 
-  first-out : (n k : ℕ) (xs : List (R .Denot)) → ent 𝓤 (sem 𝓤 H A (arr-parts (shares R) n .part fullShare xs b 0)) (sep 𝓤 (sem 𝓤 H A (first k xs)) (sem 𝓤 H A (after k xs 0)))
+  pub first-out : (n k : ℕ) (xs : List (R .Denot)) → ent 𝓤 (sem 𝓤 H A (arr-parts (shares R) n .part fullShare xs b 0)) (sep 𝓤 (sem 𝓤 H A (first k xs)) (sem 𝓤 H A (after k xs 0)))
   first-out n k xs = qed W (‵ (arr-parts (shares R) n .part fullShare xs b 0) ∷ []) {P = sep 𝓤 (sem 𝓤 H A (first k xs)) (sem 𝓤 H A (after k xs 0))} (
       fsplit ! $ drop ! $ use1 W (‵ (every (take k xs) 0) ⊛ ‵ (after k xs 0)) (cut k xs 0) $ split ! $ feqI ! ℕ (length (take k xs)) (length (take k xs)) refl $ fjoin ! $ done !)
 
-  first-in : (n k : ℕ) (xs : List (R .Denot)) → length xs ≡ n → ent 𝓤 (sep 𝓤 (sem 𝓤 H A (first k xs)) (sem 𝓤 H A (after k xs 0))) (sem 𝓤 H A (arr-parts (shares R) n .part fullShare xs b 0))
+  pub first-in : (n k : ℕ) (xs : List (R .Denot)) → length xs ≡ n → ent 𝓤 (sep 𝓤 (sem 𝓤 H A (first k xs)) (sem 𝓤 H A (after k xs 0))) (sem 𝓤 H A (arr-parts (shares R) n .part fullShare xs b 0))
   first-in n k xs len = qed W (‵ (first k xs) ∷ ‵ (after k xs 0) ∷ []) {P = sem 𝓤 H A (arr-parts (shares R) n .part fullShare xs b 0)} (
       fsplit ! $ drop ! $ use2 W (‵ (every xs 0)) (joined k xs 0) $ feqI ! ℕ (length xs) n len $ fjoin ! $ done !)
 
 -- ---- the walk
-abbrev Count : Kind
+abbrev pub Count : Kind
 Count = uint-kind w64
 
-abbrev LC : Laws Count
+abbrev pub LC : Laws Count
 LC = uint-laws w64
 
 module _ (R F : Kind) (n : ℕ) where

@@ -1,2 +1,3 @@
 pub mod ArrayKind
 pub mod LendsFirst
+pub mod LendsFirstWith

@@ -11,11 +11,13 @@ use crate::names::FILTER;
 use crate::names::LAYOUT;
 use crate::names::MANY;
 use crate::names::STATISTICS;
+use crate::names::TARIFF;
 use crate::names::WKB;
 use crate::names::call_named;
 use crate::names::takes;
 use crate::records::put_call_of_records;
 use crate::tables::Nodes;
+use crate::tariff::put_call_of_tariff;
 use crate::wkb::put_call_of_wkb;
 use bytes::scan::find;
 use check::same;
@@ -117,6 +119,9 @@ fn put_reply(
     }
     if call.owner == WKB {
         return put_call_of_wkb(out, filled, call, rest);
+    }
+    if call.owner == TARIFF {
+        return put_call_of_tariff(out, filled, call, rest, words);
     }
     put_call(out, filled, call, words, kept, nodes)
 }

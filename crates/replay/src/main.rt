@@ -10,6 +10,7 @@ mod names;
 mod record_text;
 mod records;
 mod tables;
+mod tariff;
 mod wkb;
 
 use kept::Kept;

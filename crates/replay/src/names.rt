@@ -1,4 +1,5 @@
-// The names of the calls of sedona_expr, geoparquet_bbox and sedona_wkb, beside those of sedona_geometry.
+// The names of the calls of sedona_expr, geoparquet_bbox, sedona_wkb and scan_tariff, beside those of
+// sedona_geometry.
 use replay_geometry::boxes::BOX;
 use replay_geometry::names as geometry;
 use replay_geometry::names::Call;
@@ -17,6 +18,8 @@ pub const LAYOUT: u8 = 8;
 pub const MANY: u8 = 9;
 
 pub const WKB: u8 = 10;
+
+pub const TARIFF: u8 = 11;
 
 // The rest of its name, in the same way.
 pub const UNSPECIFIED: u8 = 34;
@@ -38,6 +41,12 @@ pub const FIND_NAME: u8 = 41;
 pub const WKB_BOUNDS: u8 = 42;
 
 pub const WKB_BOUNDS_OF_PADDED: u8 = 43;
+
+pub const FEE_OF_RECORD: u8 = 44;
+
+pub const FEE_OF_SIZES: u8 = 45;
+
+pub const FEE_OF_SIZES_OF_MANY: u8 = 46;
 
 // The operands of a call that takes any number of words.
 const ANY: usize = usize::MAX;
@@ -66,6 +75,10 @@ pub fn call_named(word: &[u8]) -> Call {
         return call;
     }
     let call = call_of_wkb(word);
+    if call.is_known() {
+        return call;
+    }
+    let call = call_of_tariff(word);
     if call.is_known() {
         return call;
     }
@@ -141,5 +154,24 @@ fn call_of_wkb(word: &[u8]) -> Call {
             b"sedona_wkb::wkb_bounds_of_padded",
             WKB_BOUNDS_OF_PADDED,
             ANY,
+        )
+}
+
+// The calls of the tariff. The first three words are rates; a record follows, or any number of sizes, or
+// how many sizes there are, one of them and the last.
+fn call_of_tariff(word: &[u8]) -> Call {
+    Call::unknown(TARIFF)
+        .row(
+            word,
+            b"scan_tariff::fee_of_record",
+            FEE_OF_RECORD,
+            3 + RECORD,
+        )
+        .row(word, b"scan_tariff::fee_of_sizes", FEE_OF_SIZES, ANY)
+        .row(
+            word,
+            b"scan_tariff::fee_of_sizes_of_many",
+            FEE_OF_SIZES_OF_MANY,
+            6,
         )
 }

@@ -31,7 +31,7 @@ pub fn put_call_of_records(out: &mut Buffer, filled: usize, call: Call, words: W
     if !are_records(words) {
         return put(out, filled, b'?');
     }
-    let first = record_at(words, 0);
+    let first = first_record(words);
     let second = record_at(words, RECORD);
     put_merged(out, filled, make(call, first, second))
 }
@@ -61,7 +61,7 @@ fn never_refused(rec: GeoStatistics) -> Merged {
 }
 
 // Whether words are records: two, one or none.
-fn are_records(words: Words) -> bool {
+pub fn are_records(words: Words) -> bool {
     let missing = words.is_missing;
     words.are_parts && is_bbox(missing, 0) && is_bbox(missing, RECORD)
 }
@@ -80,6 +80,11 @@ fn is_bbox(missing: [bool; MOST_WORDS], at: usize) -> bool
         && missing[at + 5]
         && missing[at + 6]
         && missing[at + 7]
+}
+
+// The record that the first words spell.
+pub fn first_record(words: Words) -> GeoStatistics {
+    record_at(words, 0)
 }
 
 // The record that words from a place on spell.
@@ -122,7 +127,7 @@ fn types_at(words: Words, place: usize) -> GeometryTypes {
 }
 
 // The total at a place.
-fn total_at(words: Words, place: usize) -> Total {
+pub fn total_at(words: Words, place: usize) -> Total {
     let at = place % MOST_WORDS;
     if words.is_missing[at] {
         return Total::Missing;

@@ -29,12 +29,13 @@ pub struct Words {
     // Whether a word is `-`, the mark of what is missing.
     pub is_missing: [bool; MOST_WORDS],
     pub count: usize,
-    // Whether each word is a double; a double or a mark; a type set; a flag; what its place in a
-    // record asks, or a mark. None of it is where there is a word too many.
+    // Whether each word is a double; a double or a mark; a type set; a flag; a total or a mark; what its
+    // place in a record asks, or a mark. None of it is where there is a word too many.
     pub are_doubles: bool,
     pub are_ends: bool,
     pub are_sets: bool,
     pub are_flags: bool,
+    pub are_totals: bool,
     pub are_parts: bool,
 }
 
@@ -52,6 +53,7 @@ impl Words {
             are_ends: true,
             are_sets: true,
             are_flags: true,
+            are_totals: true,
             are_parts: true,
         }
     }
@@ -66,6 +68,7 @@ impl Words {
             words.are_ends = false;
             words.are_sets = false;
             words.are_flags = false;
+            words.are_totals = false;
             words.are_parts = false;
             return words;
         }
@@ -92,6 +95,8 @@ impl Words {
         if let WholeTotal::Total(n) = read_total(word) {
             words.totals[at] = n;
             is_part = is_part || (place >= TOTALS && place < EXTENTS);
+        } else {
+            words.are_totals = words.are_totals && is_missing;
         }
         words.are_parts = words.are_parts && is_part;
         words
