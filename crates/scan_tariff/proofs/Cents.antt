@@ -1,14 +1,14 @@
 -- Rates that pass, and rounding: the nearest cent is within half a cent, is the only such, and grows. Assumes nothing.
 use mathlib.Core.Path.{_≡_, refl, sym}
 use mathlib.Core.Bool.{Bool, true, false, not, _||_, cond}
-use Prim.Native.Nat.{ℕ, suc, _+_, _*_, _/_, _%_, _≤_, _<_}
+use Prim.Native.Nat.{ℕ, suc, _*_, _/_, _%_, _≤_, _<_}
 use native.Mathlib.Nat.{add-le-add, mul-le-mul, mul-le-mul-right, mod-lt, div-add-mod'}
 use native.Mathlib.Omega.{arith}
 use borrow.Author.Tests.{ltb-false}
 use lib.Dec.{T, ltb, ltb→lt, nltb→le, lit<}
 use Rattle.sedona_expr.specs.Refusals.{when}
 use Rattle.scan_tariff.specs.Error as error
-use Rattle.scan_tariff.specs.Tariff.{gib, mostBytes, ratesRefusal, firstBand, secondBand, thirdBand, exact, nearestCent, cents, Nearest}
+use Rattle.scan_tariff.specs.Tariff.{gib, mostBytes, ratesRefusal, exact, nearestCent, cents, Nearest}
 use Rattle.scan_tariff.specs.declared.tariff.Rates.{Rates}
 
 -- ---- bands

@@ -1,4 +1,5 @@
 pub mod Cents
+pub mod Instances
 pub mod Limited
 pub mod Sizes
 pub mod Theorems

@@ -7,7 +7,7 @@ use Prim.Native.Nat.{ℕ, _+_, _≤_, _<_}
 use native.Mathlib.Nat.{add-zero, zero-add, add-assoc}
 use native.Mathlib.Omega.{arith}
 use borrow.Author.Tests.{lt-ltb, ltb-true, leb-true, le-leb, le-ltb, lt-leb, eq-eqb, ne-eqb}
-use lib.Dec.{T, leb, ltb}
+use lib.Dec.{T}
 use lib.IntN.{ℤ, pos, negsuc, _+ℤ_, natAbs}
 use lib.Signed.{ltZ, leZ, nonNeg}
 use lib.ListN.{length}
@@ -21,7 +21,6 @@ use Rattle.sedona_expr.specs.declared.statistics.Total.{Total}
 use Rattle.scan_tariff.specs.Error as error
 use Rattle.scan_tariff.specs.Tariff.{mostBytes, isBilled, billed, noBytes, withSize, withSizes, totalRefusal, sizesRefusal, ratesRefusal, refused, cents, fee, feeOfTotal, feeOfSizes}
 use Rattle.scan_tariff.specs.declared.tariff.Rates.{Rates}
-use Rattle.scan_tariff.specs.declared.tariff.Fee.{Fee}
 
 -- ---- totals apart
 abbrev known-of : Total → ℤ
@@ -38,18 +37,18 @@ missing-not-known e = subst IsMissing (sym e) tt
 -- ---- a size
 
 -- A size that is billed is a count of bytes, of at most 2^40.
-pub record Size (t : Total) : Type 0 where
-  pub count : ℕ
-  pub is : t ≡ Total.Known (pos count)
-  pub most : count ≤ mostBytes
+record Size (t : Total) : Type 0 where
+  count : ℕ
+  is : t ≡ Total.Known (pos count)
+  most : count ≤ mostBytes
 
-pub size : (t : Total) → isBilled t ≡ true → Size t
+size : (t : Total) → isBilled t ≡ true → Size t
 unfolding isBilled
 size Total.Missing e = absurd (holds e)
 size (Total.Known (negsuc n)) e = absurd (holds e)
 size (Total.Known (pos n)) e = record { count = n; is = refl; most = leb-true n mostBytes e }
 
-pub count-billed : (n : ℕ) → n ≤ mostBytes → isBilled (Total.Known (pos n)) ≡ true
+count-billed : (n : ℕ) → n ≤ mostBytes → isBilled (Total.Known (pos n)) ≡ true
 unfolding isBilled
 count-billed n l = le-leb n mostBytes l
 
@@ -128,7 +127,7 @@ first-good t ts e = go (isBilled t) refl e
     go false f g = absurd (holds g)
 
 -- where some size is not billed, the sum is missing in the end
-pub walked-bad : (s : Total) (ts : List Total) → all isBilled ts ≡ false → withSizes s ts ≡ Total.Missing
+walked-bad : (s : Total) (ts : List Total) → all isBilled ts ≡ false → withSizes s ts ≡ Total.Missing
 walked-bad s [] e = absurd (fails e tt)
 walked-bad s (t ∷ ts) e = go (isBilled t) refl (walked-bad (withSize s t) ts)
   where
@@ -137,11 +136,11 @@ walked-bad s (t ∷ ts) e = go (isBilled t) refl (walked-bad (withSize s t) ts)
     go false f k = ap (λ (u : Total). withSizes u ts) (missing-right s t (rw f)) ∙ missing-stays ts
 
 -- where each is billed, the sum is a count of bytes
-pub record Counted (ts : List Total) : Type 0 where
-  pub count : ℕ
-  pub is : sum ts ≡ Total.Known (pos count)
+record Counted (ts : List Total) : Type 0 where
+  count : ℕ
+  is : sum ts ≡ Total.Known (pos count)
 
-pub counted : (ts : List Total) → all isBilled ts ≡ true → Counted ts
+counted : (ts : List Total) → all isBilled ts ≡ true → Counted ts
 counted [] e = record { count = 0; is = refl }
 counted (t ∷ ts) e =
     let g = first-good t ts e in
@@ -150,7 +149,7 @@ counted (t ∷ ts) e =
     record { count = z .count + c .count; is = ap₂ plus (z .is) (c .is) }
 
 -- and the walk gives it, where it is billed
-pub walked-good : (n : ℕ) (ts : List Total) → n ≤ mostBytes → (e : all isBilled ts ≡ true) → withSizes (Total.Known (pos n)) ts ≡ billed (Total.Known (pos (n + counted ts e .count)))
+walked-good : (n : ℕ) (ts : List Total) → n ≤ mostBytes → (e : all isBilled ts ≡ true) → withSizes (Total.Known (pos n)) ts ≡ billed (Total.Known (pos (n + counted ts e .count)))
 unfolding counted
 walked-good n [] l e = sym (ap (λ (k : ℕ). billed (Total.Known (pos k))) (add-zero n) ∙ billed-count n l)
 walked-good n (t ∷ ts) l e = ap (λ (u : Total). withSizes (withSize (Total.Known (pos n)) u) ts) (z .is) ∙ ap (λ (u : Total). withSizes u ts) (both-known (Total.Known (pos n)) (Total.Known (pos k)) (pos n) (pos k) (billed-count n l) (billed-count k (z .most))) ∙ go (ℕ-le-or-lt (n + k) mostBytes) (λ m. walked-good (n + k) ts m (first-good t ts e .1))

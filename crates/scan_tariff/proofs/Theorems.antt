@@ -6,11 +6,11 @@ use mathlib.Core.List.{List, [], _∷_, map}
 use Prim.Native.Nat.{ℕ, _+_, _*_, _≤_, _<_}
 use native.Mathlib.Omega.{arith}
 use borrow.Author.Tests.{eqb-false, le-ltb}
-use lib.Dec.{eqb, ltb}
-use lib.IntN.{ℤ, pos, +ℤ-idr}
+use lib.Dec.{eqb}
+use lib.IntN.{+ℤ-idr}
 use lib.ListN.{length, length-map}
-use Rattle.sedona_geometry.proofs.Order.{fails, holds, ℕ-le-or-lt}
-use Rattle.sedona_expr.specs.Statistics.{fold, plus, sum, total, sizeBytes}
+use Rattle.sedona_geometry.proofs.Order.{ℕ-le-or-lt}
+use Rattle.sedona_expr.specs.Statistics.{fold, sum, total, sizeBytes}
 use Rattle.sedona_expr.specs.Refusals.{all, orElse}
 use Rattle.sedona_expr.specs.declared.statistics.Total as Total
 use Rattle.sedona_expr.specs.declared.statistics.Total.{Total}

@@ -1,5 +1,4 @@
 -- `tariff::fee_of_sizes` meets its contract, by the one walk of `Limited`. Assumes nothing.
-use mathlib.Core.Path.{_≡_}
 use contract.Running.{givenOf, tables, tablesOf}
 use denote.Triple.Spec.{tripleOf}
 use denote.Triple.Table.{entered, cited}
