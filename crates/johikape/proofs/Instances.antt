@@ -1,6 +1,8 @@
--- The hypotheses of the theorems on what crosses can be met: by boxes made of −0 and of +0, and by a record of such a box. Assumes nothing.
+-- The hypotheses of the theorems on what crosses can be met: by boxes made of −0 and of +0, and by a record of such a box; and what the
+-- definitions of fees answer, computed. Assumes nothing.
 use mathlib.Core.Path.{_≡_, refl}
-use mathlib.Core.List.{map}
+use mathlib.Core.List.{[], _∷_, map}
+use Prim.Native.Nat.{ℕ, _+_, _*_}
 use lib.IntN.{pos}
 use lib.Ieee.{binary64, eq, fits, toBits}
 use Rattle.sedona_geometry.specs.BoundingBox.{Doubles, Canonical, EqualNumbers, xyzm}
@@ -9,14 +11,20 @@ use Rattle.sedona_geometry.specs.declared.bounding_box.Dimension.{Dimension}
 use Rattle.sedona_geometry.specs.declared.bounding_box.BoundingBox.{BoundingBox}
 use Rattle.sedona_geometry.proofs.Canonical.{xyzm-canonical}
 use Rattle.sedona_geometry.proofs.Instances as zeros
+use Rattle.sedona_expr.specs.Error as error
+use Rattle.sedona_expr.specs.Refusals.{goodFlag, orElse}
 use Rattle.sedona_expr.specs.declared.statistics.Bbox as Bbox
 use Rattle.sedona_expr.specs.declared.statistics.Bbox.{Bbox}
 use Rattle.sedona_expr.specs.declared.statistics.GeometryTypes as GeometryTypes
 use Rattle.sedona_expr.specs.declared.statistics.GeometryTypes.{GeometryTypes}
 use Rattle.sedona_expr.specs.declared.statistics.GeoStatistics.{GeoStatistics}
 use Rattle.sedona_expr.proofs.Instances.{reading}
+use Rattle.scan_tariff.specs.Error as number
+use Rattle.scan_tariff.specs.Tariff as scan
+use Rattle.scan_tariff.specs.declared.tariff.Fee.{Fee}
 use Rattle.johikape.specs.Boxes as box
 use Rattle.johikape.specs.Records as rec
+use Rattle.johikape.specs.Tariff as tariff
 use Rattle.johikape.proofs.Canonical.{same-bytes}
 use Rattle.johikape.proofs.ThereAndBack.{box-back-same, record-back-same}
 
@@ -50,3 +58,26 @@ pub one-key : (map (toBits binary64) (box.doubles of-minus) ≡ map (toBits bina
 one-key =
     same-bytes {a = of-minus} {b = of-plus} doubles doubles minus-canonical
     (xyzm-canonical zeros.unsigned-x zeros.unsigned (Dimension.Known zeros.unsigned) Dimension.Missing) equal-numbers
+
+-- ---- fees
+abbrev costs : ℕ → Fee
+costs n = record { number = 0; cents = n }
+
+-- 64 GiB at the first rate, 448 at the second and 256 at the third
+abbrev bytes : ℕ
+bytes = 768 * scan.gib
+
+-- The rates are in their order; a size whose byte is 0 is missing; other bytes, and counts that differ, are 8 before all else.
+pub sizes-cross : (tariff.feeOfSizes (pos bytes ∷ []) (1 ∷ []) (tariff.rates 3 50 700) ≡ costs (64 * 3 + 448 * 50 + 256 * 700))
+    × (tariff.feeOfSizes (pos bytes ∷ []) (0 ∷ []) (tariff.rates 3 50 700) ≡ scan.refused number.badSize)
+    × (tariff.feeOfSizes (pos bytes ∷ []) (2 ∷ []) (tariff.rates 3 50 10001) ≡ scan.refused error.boxes)
+    × (tariff.feeOfSizes (pos bytes ∷ []) [] (tariff.rates 3 50 10001) ≡ scan.refused error.boxes)
+unfolding scan.exact scan.nearestCent scan.isBilled scan.sizesRefusal scan.ratesRefusal scan.fee scan.feeOfSizes orElse tariff.sizesRefusal tariff.feeOfSizes
+sizes-cross = (refl, refl, refl, refl)
+
+-- A record's bytes are its second total, by the flag 32; the box flag 2 alone is bad.
+pub records-cost : (tariff.feeOfRecord (rec.parts [] (pos 5 ∷ pos bytes ∷ pos 7 ∷ []) 0 32) (tariff.rates 3 50 700) ≡ costs (64 * 3 + 448 * 50 + 256 * 700))
+    × (tariff.feeOfRecord (rec.parts [] (pos 5 ∷ pos bytes ∷ pos 7 ∷ []) 0 16) (tariff.rates 3 50 700) ≡ scan.refused number.badSize)
+    × (tariff.feeOfRecord (rec.parts [] (pos 5 ∷ pos bytes ∷ pos 7 ∷ []) 0 34) (tariff.rates 3 50 10001) ≡ scan.refused error.boxes)
+unfolding scan.exact scan.nearestCent scan.isBilled scan.totalRefusal scan.ratesRefusal scan.fee scan.feeOfTotal orElse goodFlag rec.goodFlags rec.read tariff.feeOfRecord
+records-cost = (refl, refl, refl)
