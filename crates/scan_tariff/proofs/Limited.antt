@@ -4,7 +4,7 @@
 -- of one machine value.
 -- The slice is copied before `walk` is called with it, and the call gives the lifetime's token back.
 --     most-ok, number-ok       that both are literals of MIR: `tt`
---     turned, walked, finished, result     what `refused`, `walk`, `finish` and the function give
+--     turned, walked-to, finished, result      what `refused`, `walk`, `finish` and the function give
 --     long, short              what the function gives is that of `refused` where the list is too long, and of `finish` where it is not
 -- Assumes `Given`.
 use mathlib.Core.Path.{_≡_, refl, _∙_, ap, subst}

@@ -11,13 +11,13 @@ use lib.IntN.{+ℤ-idr}
 use lib.ListN.{length, length-map}
 use Rattle.sedona_geometry.proofs.Order.{ℕ-le-or-lt}
 use Rattle.sedona_expr.specs.Statistics.{fold, sum, total, sizeBytes}
-use Rattle.sedona_expr.specs.Refusals.{all, orElse}
+use Rattle.sedona_expr.specs.Refusals.{all}
 use Rattle.sedona_expr.specs.declared.statistics.Total as Total
 use Rattle.sedona_expr.specs.declared.statistics.Total.{Total}
 use Rattle.sedona_expr.specs.declared.statistics.GeoStatistics.{GeoStatistics}
 use Rattle.sedona_expr.proofs.Theorems.{totals-are-sums}
 use Rattle.scan_tariff.specs.Error as error
-use Rattle.scan_tariff.specs.Tariff.{gib, firstBand, secondBand, thirdBand, exact, nearestCent, cents, isBilled, totalRefusal, sizesRefusal, ratesRefusal, bytes, refused, fee, feeOfTotal, feeOfRecord, feeOfSizes, difference, Nearest}
+use Rattle.scan_tariff.specs.Tariff.{gib, firstBand, secondBand, thirdBand, exact, nearestCent, cents, isBilled, totalRefusal, sizesRefusal, refusal, bytes, refused, fee, feeOfTotal, feeOfRecord, feeOfSizes, difference, Nearest}
 use Rattle.scan_tariff.specs.declared.tariff.Rates.{Rates}
 use Rattle.scan_tariff.specs.declared.tariff.Fee.{Fee}
 use Rattle.scan_tariff.proofs.Cents.{nearest, nearest-only, whole-band, cents-grow}
@@ -62,7 +62,9 @@ module _ (n : ℕ) (r : Rates) where
 
 -- ---- lists and records
 
--- The fee of a list is the fee of its sum, where it is no longer than it may be and each size is billed; where its sum is not, both are 18.
+-- The fee of a list is the fee of its sum, be it a fee, 18 for a sum over 2^40, or 19.
+--     l    the list is "of at most 1,000 sizes"
+--     e    no size is "missing, negative or over 2^40"
 pub fee-of-list : (ts : List Total) (r : Rates) → length ts ≤ 1000 → all isBilled ts ≡ true → feeOfSizes ts r ≡ feeOfTotal (sum ts) r
 unfolding feeOfSizes feeOfTotal sizesRefusal totalRefusal
 fee-of-list ts r l e = rw (le-ltb 1000 (length ts) l, e)
@@ -81,6 +83,9 @@ pub fee-of-one : (s : GeoStatistics) (r : Rates) → feeOfRecord s r ≡ feeOfSi
 fee-of-one s r = of-one (s .«total_size_bytes») r
 
 -- The fee of a folded record is that of the list of its records' sizes.
+--     e    the fold is not refused: no total leaves its range
+--     l, b    the list passes, as above. One that does not gets 18, where a record of more records than 1,000, or of sizes that mend each
+--             other, may have a fee
 pub fee-of-fold : (s : GeoStatistics) (ss : List GeoStatistics) (r : Rates) → fold (s ∷ ss) .number ≡ 0 → length (s ∷ ss) ≤ 1000 → all isBilled (map (total sizeBytes) (s ∷ ss)) ≡ true
     → feeOfRecord (fold (s ∷ ss) .rec) r ≡ feeOfSizes (map (total sizeBytes) (s ∷ ss)) r
 fee-of-fold s ss r e l b = ap (λ (t : Total). feeOfTotal t r) (totals-are-sums sizeBytes s ss e) ∙ sym (fee-of-list (map (total sizeBytes) (s ∷ ss)) r (subst (λ (n : ℕ). n ≤ 1000) (sym (length-map (s ∷ ss) (total sizeBytes))) l) b)
@@ -90,20 +95,20 @@ fee-of-fold s ss r e l b = ap (λ (t : Total). feeOfTotal t r) (totals-are-sums 
 -- an answer is refused, with no cents, or is the fee
 given-or-none : (n : ℕ) (t : Total) (r : Rates) → (fee n t r ≡ record { number = 0; cents = cents (bytes t) r }) ⊎ (fee n t r .cents ≡ 0)
 unfolding fee
-given-or-none n t r = go (eqb (orElse n (ratesRefusal r)) 0)
+given-or-none n t r = go (eqb (refusal n r) 0)
   where
-    go : (b : Bool) → let f : Fee = cond b (record { number = 0; cents = cents (bytes t) r }) (refused (orElse n (ratesRefusal r))) in
+    go : (b : Bool) → let f : Fee = cond b (record { number = 0; cents = cents (bytes t) r }) (refused (refusal n r)) in
         (f ≡ record { number = 0; cents = cents (bytes t) r }) ⊎ (f .cents ≡ 0)
     go true = inl refl
     go false = inr refl
 
 given : (n : ℕ) (t : Total) (r : Rates) → fee n t r .number ≡ 0 → fee n t r .cents ≡ cents (bytes t) r
 unfolding fee
-given n t r e = go (eqb (orElse n (ratesRefusal r)) 0) refl e
+given n t r e = go (eqb (refusal n r) 0) refl e
   where
-    go : (b : Bool) → eqb (orElse n (ratesRefusal r)) 0 ≡ b → let f : Fee = cond b (record { number = 0; cents = cents (bytes t) r }) (refused (orElse n (ratesRefusal r))) in f .number ≡ 0 → f .cents ≡ cents (bytes t) r
+    go : (b : Bool) → eqb (refusal n r) 0 ≡ b → let f : Fee = cond b (record { number = 0; cents = cents (bytes t) r }) (refused (refusal n r)) in f .number ≡ 0 → f .cents ≡ cents (bytes t) r
     go true p q = refl
-    go false p q = absurd (eqb-false (orElse n (ratesRefusal r)) 0 p q)
+    go false p q = absurd (eqb-false (refusal n r) 0 p q)
 
 grow : (m n : ℕ) (t u : Total) (r : Rates) → bytes t ≤ bytes u → fee n u r .number ≡ 0 → fee m t r .cents ≤ fee n u r .cents
 grow m n t u r l e = rw (given n u r e) (go (given-or-none m t r))
@@ -112,20 +117,20 @@ grow m n t u r l e = rw (given n u r e) (go (given-or-none m t r))
     go (inl g) = rw g (cents-grow (bytes t) (bytes u) r l)
     go (inr g) = omega arith
 
--- More bytes at the same rates never cost less: of records,
+-- More bytes at the same rates never cost less, of records and of lists. Each asks that there are no fewer bytes, and that those are not
+-- refused; what is refused costs 0.
 pub record-fees-grow : (a b : GeoStatistics) (r : Rates) → bytes (a .«total_size_bytes») ≤ bytes (b .«total_size_bytes») → feeOfRecord b r .number ≡ 0 → feeOfRecord a r .cents ≤ feeOfRecord b r .cents
 unfolding feeOfTotal
 record-fees-grow a b r = grow (totalRefusal (a .«total_size_bytes»)) (totalRefusal (b .«total_size_bytes»)) (a .«total_size_bytes») (b .«total_size_bytes») r
 
--- and of lists.
 pub list-fees-grow : (ts us : List Total) (r : Rates) → bytes (sum ts) ≤ bytes (sum us) → feeOfSizes us r .number ≡ 0 → feeOfSizes ts r .cents ≤ feeOfSizes us r .cents
 unfolding feeOfSizes
 list-fees-grow ts us r = grow (sizesRefusal ts) (sizesRefusal us) (sum ts) (sum us) r
 
 -- ---- rounding
 
--- The rounded fee is at most half a cent from the exact one, which is a number of cents times 2^30: twice their difference, times 2^30, is at
--- most 2^30.
+-- The rounded fee, where one is given, is at most half a cent from the exact one, which is a number of cents times 2^30: twice their
+-- difference, times 2^30, is at most 2^30.
 within : (n : ℕ) (t : Total) (r : Rates) → fee n t r .number ≡ 0 → 2 * difference (fee n t r .cents * gib) (exact (bytes t) r) ≤ gib
 within n t r e = let m = nearest (exact (bytes t) r) in rw (given n t r e) (omega arith)
 

@@ -65,6 +65,10 @@ sizesRefusal ts = when (ltb 1000 (length ts) || not (all isBilled ts) || not (is
 unfoldable pub ratesRefusal : Rates → ℕ
 ratesRefusal r = when (ltb 10000 (r .first) || ltb 10000 (r .second) || ltb 10000 (r .third)) error.badRate
 
+-- Their order: that of the sizes, "then" that of the rates.
+abbrev pub refusal : ℕ → Rates → ℕ
+refusal n r = orElse n (ratesRefusal r)
+
 -- ---- the calls
 
 -- The bytes of a total. (They are asked only of one that is billed.)
@@ -76,9 +80,9 @@ bytes (Total.Known z) = natAbs z
 abbrev pub refused : ℕ → Fee
 refused n = record { number = n; cents = 0 }
 
--- The fee, where nothing refuses it: 18, "then" 19.
+-- The fee of a total at rates, where neither a number for the sizes nor one for the rates refuses it.
 unfoldable pub fee : ℕ → Total → Rates → Fee
-fee n t r = cond (eqb (orElse n (ratesRefusal r)) 0) (record { number = 0; cents = cents (bytes t) r }) (refused (orElse n (ratesRefusal r)))
+fee n t r = cond (eqb (refusal n r) 0) (record { number = 0; cents = cents (bytes t) r }) (refused (refusal n r))
 
 unfoldable pub feeOfTotal : Total → Rates → Fee
 feeOfTotal t r = fee (totalRefusal t) t r
