@@ -152,7 +152,7 @@ merge-with-empty : (x y : WraparoundInterval) → isEmpty x ≡ false → isEmpt
 unfolding mergeInterval
 merge-with-empty x y e f = rw (e, f)
 
-merge-ordered : {x y : WraparoundInterval} → Doubles (x .inner) → Doubles (y .inner) → Le (x .inner .lo) (x .inner .hi) → Le (y .inner .lo) (y .inner .hi)
+pub merge-ordered : {x y : WraparoundInterval} → Doubles (x .inner) → Doubles (y .inner) → Le (x .inner .lo) (x .inner .hi) → Le (y .inner .lo) (y .inner .hi)
     → mergeInterval x y ≡ fromInterval (interval.mergeInterval (x .inner) (y .inner))
 unfolding mergeInterval mergeNonEmpty
 merge-ordered D E h k = rw (low-to-high-not-empty D h, low-to-high-not-empty E k, low-to-high-plain D h, low-to-high-plain E k)

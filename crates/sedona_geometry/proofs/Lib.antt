@@ -11,6 +11,7 @@ pub mod Kind
 pub mod MinMax
 pub mod Order
 pub mod PlusZero
+pub mod Rising
 pub mod Rounding
 pub mod Says
 pub mod Sign

@@ -271,8 +271,29 @@ impl WraparoundInterval {
         a.left.intersects_value(value) || a.right.intersects_value(value)
     }
 
+    // Whether both run low to high. Then neither wraps or is empty, and their ends alone tell what is
+    // asked of the two. Most x are so: no width is taken of them, and no piece made. (The contract also
+    // says of the ends that they are doubles, which the laws of the two ask.)
+    fn both_rise(self, other: WraparoundInterval) -> bool
+        ensures { λ r. ⌜ (r ≡ wraparound.bothRise self other) × (interval.Doubles (self .inner) × interval.Doubles (other .inner)) ⌝ }
+    {
+        let a = self.inner;
+        let b = other.inner;
+        (a.lo <= a.hi) & (b.lo <= b.hi)
+    }
+
     // Whether some piece of this x and some piece of the other intersect.
     pub fn intersects_interval(self, other: WraparoundInterval) -> bool
+        ensures { λ r. ⌜ r ≡ wraparound.intersectsInterval self other ⌝ }
+    {
+        if self.both_rise(other) {
+            return self.inner.intersects_interval(other.inner);
+        }
+        self.intersects_by_pieces(other)
+    }
+
+    // The same of any two.
+    fn intersects_by_pieces(self, other: WraparoundInterval) -> bool
         ensures { λ r. ⌜ r ≡ wraparound.intersectsInterval self other ⌝ }
     {
         let a = self.split();
@@ -282,6 +303,16 @@ impl WraparoundInterval {
 
     // Whether every piece of the other that is not empty lies inside some piece.
     pub fn contains_interval(self, other: WraparoundInterval) -> bool
+        ensures { λ r. ⌜ r ≡ wraparound.containsInterval self other ⌝ }
+    {
+        if self.both_rise(other) {
+            return self.inner.contains_interval(other.inner);
+        }
+        self.contains_by_pieces(other)
+    }
+
+    // The same of any two.
+    fn contains_by_pieces(self, other: WraparoundInterval) -> bool
         ensures { λ r. ⌜ r ≡ wraparound.containsInterval self other ⌝ }
     {
         let a = self.split();
@@ -325,6 +356,16 @@ impl WraparoundInterval {
 
     // An x around both. An empty one yields the other.
     pub fn merge_interval(self, other: WraparoundInterval) -> WraparoundInterval
+        ensures { λ r. ⌜ r ≡ wraparound.mergeInterval self other ⌝ }
+    {
+        if self.both_rise(other) {
+            return WraparoundInterval::from_interval(self.inner.merge_interval(other.inner));
+        }
+        self.merge_any(other)
+    }
+
+    // The same of any two.
+    fn merge_any(self, other: WraparoundInterval) -> WraparoundInterval
         ensures { λ r. ⌜ r ≡ wraparound.mergeInterval self other ⌝ }
     {
         if self.is_empty() {
