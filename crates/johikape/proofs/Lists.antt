@@ -3,19 +3,19 @@ use mathlib.Core.Path.{_≡_, refl, sym, ap, _∙_}
 use mathlib.Core.Bool.{Bool, true, false, not, _||_}
 use mathlib.Core.List.{List}
 use Prim.Native.Nat.{ℕ, suc, _+_, _-_, _*_, _/_, _%_, _≤_, _<_}
-use native.Mathlib.Nat.{add-zero, div-add-mod'}
+use native.Mathlib.Nat.{add-zero, sub-zero, div-add-mod'}
 use native.Mathlib.Numerals.{add-one}
 use native.Mathlib.Omega.{arith}
 use lib.Arith.{digits-div, digits-mod}
 use lib.Dec.{eqb}
-use lib.ListN.{length, take, drop, length-drop}
+use lib.ListN.{length, getD, take, drop, length-drop}
 use lib.Seq.{take-length}
 use borrow.Author.Tests.{eq-eqb, ne-eqb, eqb-true}
 use Rattle.sedona_expr.specs.Error as error
-use Rattle.sedona_expr.specs.Statistics.{step, foldFrom}
+use Rattle.sedona_expr.specs.Statistics.{start, step, foldFrom, fold}
 use Rattle.sedona_expr.specs.Refusals.{all, when}
 use Rattle.sedona_expr.specs.declared.statistics.Folded.{Folded}
-use Rattle.johikape.specs.Records.{Lists, at, from, goodFlags, listsRefusal}
+use Rattle.johikape.specs.Records.{Lists, Fit, read, records, FoldedTo, goodFlags, listsRefusal}
 
 -- ---- k elements for each of f
 module _ (k d f : ℕ) (p : 0 < k) where
@@ -33,30 +33,37 @@ pub take-rest : {A : Type 0} (xs : List A) (d : ℕ) → take (length xs - d) (d
 take-rest xs d = ap (λ (n : ℕ). take n (drop d xs)) (sym (length-drop d xs)) ∙ take-length (drop d xs)
 
 -- ---- lists that pass fit
-pub lists-pass : (l : Lists) (n : ℕ) → n ≡ listsRefusal l → n ≡ 0
-    → (length (l .doubles) ≡ length (l .flags) * 10) × ((length (l .totals) ≡ length (l .flags) * 7) × (length (l .types) ≡ length (l .flags)))
+pub lists-pass : (l : Lists) (n : ℕ) → n ≡ listsRefusal l → n ≡ 0 → Fit l
 unfolding listsRefusal
 lists-pass l n is e = go (eqb (length (l .doubles)) (length (l .flags) * 10)) (eqb (length (l .totals)) (length (l .flags) * 7)) (eqb (length (l .types)) (length (l .flags))) (all goodFlags (l .flags)) refl refl refl (sym is ∙ e)
   where
     go : (a b c d : Bool) → eqb (length (l .doubles)) (length (l .flags) * 10) ≡ a → eqb (length (l .totals)) (length (l .flags) * 7) ≡ b
-        → eqb (length (l .types)) (length (l .flags)) ≡ c → when (not a || not b || not c || not d) error.boxes ≡ 0
-        → (length (l .doubles) ≡ length (l .flags) * 10) × ((length (l .totals) ≡ length (l .flags) * 7) × (length (l .types) ≡ length (l .flags)))
-    go true true true d p q r z = (eqb-true _ _ p, (eqb-true _ _ q, eqb-true _ _ r))
+        → eqb (length (l .types)) (length (l .flags)) ≡ c → when (not a || not b || not c || not d) error.boxes ≡ 0 → Fit l
+    go true true true d p q r z = record { doubles = eqb-true _ _ p; totals = eqb-true _ _ q; types = eqb-true _ _ r }
     go false b c d p q r z = absurd (omega arith)
     go true false c d p q r z = absurd (omega arith)
     go true true false d p q r z = absurd (omega arith)
 
--- ---- the fold, one record on
-pub fold-next : (l : Lists) (f : Folded) (i n : ℕ) → i < n → foldFrom f (from l i (n - i)) ≡ foldFrom (step f (at l i)) (from l (i + 1) (n - (i + 1)))
+-- what a record's place asks of them
+pub place-fits : (l : Lists) (i : ℕ) → Fit l → i < length (l .flags)
+    → (10 * i + 10 ≤ length (l .doubles)) × ((7 * i + 7 ≤ length (l .totals)) × (i < length (l .types)))
+place-fits l i F h = (omega (arith, F .doubles), (omega (arith, F .totals), omega (arith, F .types)))
+
+-- ---- the fold: of none, one record on, of all
+pub folded-none : (l : Lists) → FoldedTo l start 0
+folded-none l = record { place = omega arith; rest = rw (sub-zero (length (l .flags))) }
+
+pub folded-next : (l : Lists) (f : Folded) (i : ℕ) {k : ℕ} → i < length (l .flags) → getD (l .flags) i 0 ≡ k → FoldedTo l f i
+    → FoldedTo l (step f (read (drop (10 * i) (l .doubles)) (drop (7 * i) (l .totals)) (getD (l .types) i 0) k)) (i + 1)
 unfolding foldFrom
-fold-next l f i n h = rw (more, add-one i)
+folded-next l f i h e F = record { place = omega arith; rest = rw (← e, add-one i) (rw more at (F .rest)) }
   where
-    more : n - i ≡ suc (n - (i + 1))
+    more : length (l .flags) - i ≡ suc (length (l .flags) - suc i)
     more = omega arith
 
-pub fold-done : (l : Lists) (f : Folded) (i n : ℕ) → n ≤ i → foldFrom f (from l i (n - i)) ≡ f
+pub folded-all : (l : Lists) (f : Folded) (i : ℕ) → length (l .flags) ≤ i → FoldedTo l f i → f ≡ fold (records l)
 unfolding foldFrom
-fold-done l f i n h = rw none
+folded-all l f i h F = rw none at (F .rest)
   where
-    none : n - i ≡ 0
+    none : length (l .flags) - i ≡ 0
     none = omega arith

@@ -3,7 +3,7 @@
 use mathlib.Core.Path.{_≡_}
 use mathlib.Core.Bool.{Bool, true, not, _&&_, _||_, cond}
 use mathlib.Core.List.{List, [], _∷_}
-use Prim.Native.Nat.{ℕ, zero, suc, _+_, _*_, _/_, _%_}
+use Prim.Native.Nat.{ℕ, zero, suc, _+_, _-_, _*_, _/_, _%_, _≤_}
 use lib.Dec.{eqb, ltb}
 use lib.IntN.{ℤ, pos}
 use lib.ListN.{length, getD, take, drop}
@@ -26,6 +26,7 @@ use Rattle.sedona_expr.specs.declared.statistics.Total.{Total}
 use Rattle.sedona_expr.specs.declared.statistics.Extent as Extent
 use Rattle.sedona_expr.specs.declared.statistics.Extent.{Extent}
 use Rattle.sedona_expr.specs.declared.statistics.GeoStatistics.{GeoStatistics}
+use Rattle.sedona_expr.specs.declared.statistics.Folded.{Folded}
 use Rattle.sedona_expr.specs.declared.statistics.Merged.{Merged}
 use Rattle.johikape.specs.Boxes.{low, high, flag, leaves}
 
@@ -169,6 +170,12 @@ listsRefusal l =
     || not (all goodFlags (l .flags)))
     error.boxes
 
+-- The lengths fit: what the fold asks of lists that are not refused.
+pub record Fit (l : Lists) : Type 0 where
+  pub doubles : length (l .doubles) ≡ length (l .flags) * 10
+  pub totals : length (l .totals) ≡ length (l .flags) * 7
+  pub types : length (l .types) ≡ length (l .flags)
+
 -- The record at a place.
 abbrev pub at : Lists → ℕ → GeoStatistics
 at l i = read (drop (10 * i) (l .doubles)) (drop (7 * i) (l .totals)) (getD (l .types) i 0) (getD (l .flags) i 0)
@@ -180,6 +187,11 @@ from l i (suc n) = at l i ∷ from l (suc i) n
 
 abbrev pub records : Lists → List GeoStatistics
 records l = from l 0 (length (l .flags))
+
+-- A fold of the first i records: with the rest folded in, it is that of all.
+pub record FoldedTo (l : Lists) (f : Folded) (i : ℕ) : Type 0 where
+  pub place : i ≤ length (l .flags)
+  pub rest : statistics.foldFrom f (from l i (length (l .flags) - i)) ≡ statistics.fold (records l)
 
 -- The fold of the records; or 8 alone.
 unfoldable pub folded : Lists → Merged

@@ -2,7 +2,7 @@
 // 1, 2, 4 of the box, 8 types, 16 to 1,024 the totals, 2,048 and 4,096 the lengths.
 ghost use mathlib.Core.Path.{_≡_};
 ghost use mathlib.Core.List.{_∷_, []};
-ghost use Prim.Native.Nat.{_≤_, _<_, _+_, _*_};
+ghost use Prim.Native.Nat.{_≤_, _<_, _+_, _*_, _-_};
 ghost use lib.IntN.{pos};
 ghost use lib.ListN.{length, drop, getD};
 ghost use lib.Ieee.{nan};
@@ -310,14 +310,13 @@ pub extern "C" fn johikape_merge(
 fn are_all_good(flags: &[u32]) -> bool
     ensures { λ r. ⌜ r ≡ refusals.all records.goodFlags (now (flags .entry)) ⌝ }
 {
+    let mut good = true;
     let mut i = 0;
     while i < flags.len() {
-        if !are_good(flags[i]) {
-            return false;
-        }
+        good = good & are_good(flags[i]);
         i += 1;
     }
-    true
+    good
 }
 
 // Lengths that do not fit, or bad flags.
@@ -342,31 +341,80 @@ fn lists_refusal(doubles: &[f64], totals: &[i64], types: &[u32], flags: &[u32]) 
     if are_all_good(flags) { 0 } else { BOXES }
 }
 
-// The record at a place.
-fn record_at(
-    doubles: &[f64],
-    totals: &[i64],
-    types: &[u32],
-    flags: &[u32],
-    i: usize,
-) -> GeoStatistics
-    requires { ⌜ (10 * i + 10 ≤ length (now doubles)) × ((7 * i + 7 ≤ length (now totals)) × ((i < length (now types)) × (i < length (now flags)))) ⌝ }
-    ensures { λ r. ⌜ r ≡ records.at (records.lists (now (doubles .entry)) (now (totals .entry)) (now (types .entry)) (now (flags .entry))) i ⌝ }
+// The record at a place, of which the flags are handed over.
+fn record_at(doubles: &[f64], totals: &[i64], types: &[u32], i: usize, flags: u32) -> GeoStatistics
+    requires { ⌜ (10 * i + 10 ≤ length (now doubles)) × ((7 * i + 7 ≤ length (now totals)) × (i < length (now types))) ⌝ }
+    ensures { λ r. ⌜ r ≡ records.read (drop (10 * i) (now (doubles .entry))) (drop (7 * i) (now (totals .entry))) (getD (now (types .entry)) i 0) flags ⌝ }
 {
     let d = 10 * i;
     let t = 7 * i;
-    read(&doubles[d..], &totals[t..], types[i], flags[i])
+    read(&doubles[d..], &totals[t..], types[i], flags)
+}
+
+// The flags of a record of which every part is known.
+const WHOLE: u32 = 8191;
+
+// A fold as far as it has got, and how many records are in it.
+pub struct Begun {
+    pub folded: Folded,
+    pub count: usize,
+}
+
+// The fold of the first records, as long as every part of them is known and no merge is refused. Most
+// lists are so. The compiler sees that each part is known, and keeps nothing but the numbers from one
+// record to the next.
+fn fold_whole(doubles: &[f64], totals: &[i64], types: &[u32], flags: &[u32]) -> Begun
+    requires { ⌜ records.Fit (records.lists (now doubles) (now totals) (now types) (now flags)) ⌝ }
+    ensures { λ r. ⌜ records.FoldedTo (records.lists (now (doubles .entry)) (now (totals .entry)) (now (types .entry)) (now (flags .entry))) (r .folded) (r .count) ⌝ }
+{
+    let none = Folded::start();
+    if flags.len() == 0 {
+        return Begun {
+            folded: none,
+            count: 0,
+        };
+    }
+    if flags[0] != WHOLE {
+        return Begun {
+            folded: none,
+            count: 0,
+        };
+    }
+    let mut acc = none.step(record_at(doubles, totals, types, 0, WHOLE));
+    let mut i = 1;
+    while i < flags.len() {
+        if flags[i] != WHOLE {
+            return Begun {
+                folded: acc,
+                count: i,
+            };
+        }
+        let next = acc.step(record_at(doubles, totals, types, i, WHOLE));
+        i += 1;
+        if next.number != 0 {
+            return Begun {
+                folded: next,
+                count: i,
+            };
+        }
+        acc = next;
+    }
+    Begun {
+        folded: acc,
+        count: i,
+    }
 }
 
 // The fold of lists that fit.
 fn fold_lists(doubles: &[f64], totals: &[i64], types: &[u32], flags: &[u32]) -> Folded
-    requires { ⌜ (length (now doubles) ≡ length (now flags) * 10) × ((length (now totals) ≡ length (now flags) * 7) × (length (now types) ≡ length (now flags))) ⌝ }
+    requires { ⌜ records.Fit (records.lists (now doubles) (now totals) (now types) (now flags)) ⌝ }
     ensures { λ r. ⌜ r ≡ statistics.fold (records.records (records.lists (now (doubles .entry)) (now (totals .entry)) (now (types .entry)) (now (flags .entry)))) ⌝ }
 {
-    let mut acc = Folded::start();
-    let mut i = 0;
+    let begun = fold_whole(doubles, totals, types, flags);
+    let mut acc = begun.folded;
+    let mut i = begun.count;
     while i < flags.len() {
-        acc = acc.step(record_at(doubles, totals, types, flags, i));
+        acc = acc.step(record_at(doubles, totals, types, i, flags[i]));
         i += 1;
     }
     acc

@@ -1,9 +1,10 @@
 -- What the refusals let pass: as many words as make 1 node to 1,024, eight doubles a flag; and `filter_bbox` refuses no table that a filter call takes.
 -- Assumes nothing.
-use mathlib.Core.Path.{_≡_, refl, sym, _∙_}
+use mathlib.Core.Path.{_≡_, refl, sym, subst, _∙_}
 use mathlib.Core.Bool.{Bool, true, false, not, _||_, cond}
 use mathlib.Core.List.{List}
-use Prim.Native.Nat.{ℕ, zero, suc, _*_, _/_, _%_, _≤_}
+use Prim.Native.Nat.{ℕ, zero, suc, _+_, _*_, _/_, _%_, _≤_, _<_}
+use native.Mathlib.Numerals.{add-one}
 use native.Mathlib.Omega.{arith}
 use lib.Dec.{eqb, ltb}
 use lib.ListN.{length}
@@ -40,6 +41,37 @@ or-else-zero m n = go (eqb m 0) refl
     go : (b : Bool) → eqb m 0 ≡ b → cond b n m ≡ 0 → (m ≡ 0) × (n ≡ 0)
     go true e z = (eqb-true m 0 e, z)
     go false e z = absurd (eqb-false m 0 e z)
+
+or-else-last : (m : ℕ) → m ≡ orElse m 0
+unfolding orElse
+or-else-last m = go (eqb m 0) refl
+  where
+    go : (b : Bool) → eqb m 0 ≡ b → m ≡ cond b 0 m
+    go true e = eqb-true m 0 e
+    go false e = refl
+
+-- ---- nodes upward, where nothing refuses those before n; k is what a test of n gave
+module _ (ns : List ℕ) (literals : ℕ) (lent : ℕ → Bool) (n : ℕ) {k : ℕ} (z : nodesRefusal ns literals lent n ≡ 0) (e : k ≡ nodeRefusal ns literals lent n) where
+  pub nodes-next : k ≡ 0 → nodesRefusal ns literals lent (n + 1) ≡ 0
+  nodes-next h = rw (add-one n) (sym (or-else-next refl z (sym h ∙ e)))
+
+  -- the first number that is not 0 is that of all
+  pub nodes-stop : (c : ℕ) → n < c → (k ≡ 0 → ⊥) → k ≡ nodesRefusal ns literals lent c
+  nodes-stop zero l d = absurd (omega arith)
+  nodes-stop (suc c) l d = go (eqb n c) refl (nodes-stop c)
+    where
+      go : (b : Bool) → eqb n c ≡ b → (n < c → (k ≡ 0 → ⊥) → k ≡ nodesRefusal ns literals lent c) → k ≡ nodesRefusal ns literals lent (suc c)
+      go true q f =
+          let s : n ≡ c = eqb-true n c q in
+          or-else-next refl (subst (λ (m : ℕ). nodesRefusal ns literals lent m ≡ 0) s z) (subst (λ (m : ℕ). k ≡ nodeRefusal ns literals lent m) s e)
+      go false q f =
+          let u : (n ≡ c → ⊥) = eqb-false n c q in
+          or-else-stop (nodeRefusal ns literals lent c) (f (omega arith) d) d
+
+-- one node has no child to count
+pub one-node : (ns : List ℕ) (literals : ℕ) (lent : ℕ → Bool) → count ns ≡ 1 → nodeRefusal ns literals lent 0 ≡ treeRefusal ns literals lent
+unfolding treeRefusal usesRefusal
+one-node ns literals lent e = rw e (or-else-next refl refl refl ∙ or-else-last _)
 
 -- an index is asked for where names are not
 pub asked : (b : Bool) (ns : List ℕ) → not b ≡ asksIndex (lookup b ns)

@@ -1,27 +1,24 @@
 -- Searches and tests along a list of names or flags, one place at a time; names of which none comes twice differ. Assumes nothing.
-use mathlib.Core.Path.{_≡_, refl, sym, ap}
-use mathlib.Core.Bool.{Bool, true, false, _&&_, _||_, cond}
+use mathlib.Core.Path.{_≡_, refl, sym, ap, _∙_}
+use mathlib.Core.Bool.{Bool, true, false, not, _&&_, _||_, cond, and-true, and-assoc}
 use mathlib.Core.List.{List, [], _∷_}
-use Prim.Native.Nat.{ℕ, zero, suc, _+_, _≤_, _<_}
+use Prim.Native.Nat.{ℕ, zero, suc, _+_, _-_, _≤_, _<_}
 use native.Mathlib.Numerals.{add-one}
 use native.Mathlib.Omega.{arith}
 use lib.Dec.{eqb}
-use lib.ListN.{length, getD, drop, drop-of-length-le}
-use lib.Seq.{drop-cons}
+use lib.ListN.{length, getD, take, drop, length-drop, drop-of-length-le}
+use lib.Seq.{drop-cons, drop-drop}
 use borrow.Author.Tests.{eqb-true, eqb-false, eq-eqb, ne-eqb, ltb-false}
 use Rattle.sedona_geometry.proofs.Order.{fails}
-use Rattle.sedona_expr.specs.Names.{findName}
+use Rattle.sedona_expr.specs.Names.{hitAtOnce, further, findName, isOther, behind}
 use Rattle.sedona_expr.specs.Tables.{placeOf}
 use Rattle.sedona_expr.specs.Refusals.{all, isAmong, hasTwice}
 use Rattle.sedona_expr.specs.declared.names.NameSearch.{NameSearch}
 
-rest : {A : Type 0} (xs : List A) (i : ℕ) (d : A) → i < length xs → drop i xs ≡ getD xs i d ∷ drop (i + 1) xs
+pub rest : {A : Type 0} (xs : List A) (i : ℕ) (d : A) → i < length xs → drop i xs ≡ getD xs i d ∷ drop (i + 1) xs
 rest xs i d h = rw (add-one i) (drop-cons xs i d h)
 
 -- ---- the search for a name: one that begins behind so many names, a name at a time
-abbrev pub behind : ℕ → NameSearch → NameSearch
-behind k s = record { hit = s .hit; place = k + s .place; compared = k + s .compared }
-
 pub same-search : {h : Bool} {p q c d : ℕ} → p ≡ q → c ≡ d → _≡_ {A = NameSearch} (record { hit = h; place = p; compared = c }) (record { hit = h; place = q; compared = d })
 same-search e f = rw (e, f) refl
 
@@ -36,15 +33,48 @@ pub find-next : (ns : List ℕ) (i n : ℕ) → i < length ns → (getD ns i 0 �
 unfolding findName
 find-next ns i n h e = rw (rest ns i 0 h, ne-eqb (getD ns i 0) n e) (same-search (omega arith) (omega arith))
 
+-- past any number of names of which none is a hit
+pass : (ms : List ℕ) (k n : ℕ) → k ≤ length ms → all (isOther n) (take k ms) ≡ true → findName ms n ≡ behind k (findName (drop k ms) n)
+unfolding findName
+pass ms zero n h e = find-all ms n
+pass [] (suc k) n h e = absurd (omega arith)
+pass (m ∷ ms) (suc k) n h e = go (eqb m n) (pass ms k n (omega arith)) e
+  where
+    go : (b : Bool) → (all (isOther n) (take k ms) ≡ true → findName ms n ≡ behind k (findName (drop k ms) n)) → (not b && all (isOther n) (take k ms)) ≡ true
+        → cond b hitAtOnce (further (findName ms n)) ≡ behind (suc k) (findName (drop k ms) n)
+    go true f e = absurd (fails (sym e) tt)
+    go false f e = ap further (f e) ∙ same-search (omega arith) (omega arith)
+
+pub find-past : (ns : List ℕ) (i j n : ℕ) → i ≤ j → j ≤ length ns → all (isOther n) (take (j - i) (drop i ns)) ≡ true
+    → behind i (findName (drop i ns) n) ≡ behind j (findName (drop j ns) n)
+find-past ns i j n h l e =
+    let d : i + (j - i) ≡ j = omega arith in
+    ap (behind i) (pass (drop i ns) (j - i) n (omega (arith, length-drop i ns)) e) ∙ rw (drop-drop (j - i) i ns, d) (same-search (omega arith) (omega arith))
+
 pub find-end : (ns : List ℕ) (i n : ℕ) → length ns ≤ i → behind i (findName (drop i ns) n) ≡ record { hit = false; place = i; compared = i }
 unfolding findName
 find-end ns i n h = rw (drop-of-length-le ns h) (same-search (omega arith) (omega arith))
+
+-- ---- tests along a list that have no way out before its end: what is known, and what is left
+pub test-next : {whole left : Bool} (good p after : Bool) → whole ≡ (good && left) → left ≡ (p && after) → whole ≡ (good && p && after)
+test-next good p after e f = e ∙ rw f (sym (and-assoc good p after))
+
+pub test-end : {whole left : Bool} (good : Bool) → whole ≡ (good && left) → left ≡ true → good ≡ whole
+test-end good e f = sym (e ∙ rw f (and-true good))
 
 pub all-next : {A : Type 0} (p : A → Bool) (xs : List A) (i : ℕ) (d : A) → i < length xs → all p (drop i xs) ≡ (p (getD xs i d) && all p (drop (i + 1) xs))
 all-next p xs i d h = rw (rest xs i d h)
 
 pub all-none : {A : Type 0} (p : A → Bool) (xs : List A) (i : ℕ) → length xs ≤ i → all p (drop i xs) ≡ true
 all-none p xs i h = rw (drop-of-length-le xs h)
+
+-- the same of a test that goes to the end
+pub all-more : {A : Type 0} (p : A → Bool) (xs : List A) (i : ℕ) (d : A) (good : Bool) → i < length xs → all p xs ≡ (good && all p (drop i xs))
+    → all p xs ≡ ((good && p (getD xs i d)) && all p (drop (i + 1) xs))
+all-more p xs i d good h e = test-next good (p (getD xs i d)) (all p (drop (i + 1) xs)) e (all-next p xs i d h)
+
+pub all-done : {A : Type 0} (p : A → Bool) (xs : List A) (i : ℕ) (good : Bool) → length xs ≤ i → all p xs ≡ (good && all p (drop i xs)) → good ≡ all p xs
+all-done p xs i good h e = test-end good e (all-none p xs i h)
 
 -- ---- the first place of a name
 -- a name is there, and not before
@@ -79,7 +109,7 @@ place-below (n ∷ ns) (suc i) h = go (eqb n (getD ns i 0)) (place-below ns i (o
     go false h = omega arith
 
 -- ---- names of which none comes twice differ
-neither : (a b : Bool) → (a || b) ≡ false → (a ≡ false) × (b ≡ false)
+pub neither : (a b : Bool) → (a || b) ≡ false → (a ≡ false) × (b ≡ false)
 neither true b h = absurd (fails h tt)
 neither false b h = (refl, h)
 

@@ -7,9 +7,8 @@ use mathlib.Core.List.{List, [], _∷_, _++_, map}
 use lib.IntN.{ℤ, pos, +ℤ-assoc, +ℤ-idr}
 use borrow.Author.Tests.{eqb-true, eqb-false}
 use lib.Dec.{eqb}
-use Rattle.sedona_geometry.proofs.Order.{fails}
 use Rattle.sedona_geometry.proofs.Boxes as boxes
-use Rattle.sedona_expr.specs.Statistics.{plusZeroWhereKnown, mergeBboxes, addExtents, addTotals, sumLeaves, totalsOverflow, countsOverflow, mergeParts, plusZero, refused, mergeValue, foldFrom, fold, All, DoublesWhereKnown, NoLess, Which, geometries, sizeBytes, points, puntal, lineal, polygonal, collection, total, Side, width, height, extent, plus, sum, wholeSum, addAll, PrefixSumsFit, Tree, leaf, node, mergeAnswers, mergeTree, AllLeaves}
+use Rattle.sedona_expr.specs.Statistics.{plusZeroWhereKnown, mergeBboxes, addExtents, addTotals, sumLeaves, totalsOverflow, countsOverflow, mergeParts, plusZero, refused, mergeValue, foldFrom, fold, All, DoublesWhereKnown, NoLess, Which, geometries, sizeBytes, points, puntal, lineal, polygonal, collection, total, SumsStay, Side, width, height, extent, plus, sum, wholeSum, addAll, PrefixSumsFit, Tree, leaf, node, mergeAnswers, mergeTree, AllLeaves}
 use Rattle.sedona_expr.specs.Error as error
 use Rattle.sedona_expr.specs.declared.statistics.Bbox as Bbox
 use Rattle.sedona_expr.specs.declared.statistics.Bbox.{Bbox}
@@ -19,6 +18,7 @@ use Rattle.sedona_expr.specs.declared.statistics.Extent.{Extent}
 use Rattle.sedona_expr.specs.declared.statistics.GeoStatistics.{GeoStatistics}
 use Rattle.sedona_expr.specs.declared.statistics.Folded.{Folded}
 use Rattle.sedona_expr.specs.declared.statistics.Merged.{Merged}
+use Rattle.sedona_expr.proofs.Searches.{neither}
 use Rattle.sedona_expr.proofs.Folds.{overflow, mergeAll, Fits, fits-of-fold, fold-of-fits, fold-number, fold-first, three-not-zero}
 
 -- ---- boxes
@@ -103,13 +103,9 @@ total-plus polygonal a = refl
 total-plus collection a = refl
 
 -- no total of the seven leaves the range exactly where the step does not overflow
-neither : (p q : Bool) → (p || q) ≡ false → (p ≡ false) × (q ≡ false)
-neither true q e = absurd (fails e tt)
-neither false q e = (refl, e)
-
-total-fits : (w : Which) (a b : GeoStatistics) → overflow a b ≡ false → sumLeaves (total w a) (total w b) ≡ false
+pub sums-stay : (a b : GeoStatistics) → overflow a b ≡ false → SumsStay a b
 unfolding totalsOverflow countsOverflow
-total-fits w a b e = go w
+sums-stay a b e = go
   where
     l : Which → Bool
     l v = sumLeaves (total v a) (total v b)
@@ -135,7 +131,7 @@ total-fits w a b e = go w
     go polygonal = last .1
     go collection = four .1
 
-overflows-not : (a b : GeoStatistics) → ((w : Which) → sumLeaves (total w a) (total w b) ≡ false) → overflow a b ≡ false
+overflows-not : (a b : GeoStatistics) → SumsStay a b → overflow a b ≡ false
 unfolding totalsOverflow countsOverflow
 overflows-not a b h = rw (h geometries, h sizeBytes, h points, h puntal, h lineal, h polygonal, h collection)
 
@@ -159,7 +155,7 @@ merged-total : (w : Which) (a : GeoStatistics) (rs : List GeoStatistics) → Fit
 merged-total w a [] h = sym (plus-zero (total w a))
 merged-total w a (r ∷ rs) h =
     merged-total w (mergeParts a r) rs (h .1)
-    ∙ ap (λ (t : Total). plus t (sum (map (total w) rs))) (total-merged w a r ∙ add-is-plus (total w a) (total w r) (total-fits w a r (h .0)))
+    ∙ ap (λ (t : Total). plus t (sum (map (total w) rs))) (total-merged w a r ∙ add-is-plus (total w a) (total w r) (sums-stay a r (h .0) w))
     ∙ plus-assoc (total w a) (total w r) (sum (map (total w) rs))
 
 -- Merged totals are sums: a fold's total is known exactly where every record's is, and is then their sum over the whole numbers.
@@ -213,7 +209,7 @@ fits-of-prefixes a (r ∷ rs) h = (
 prefixes-of-fits : (w : Which) (a : GeoStatistics) (rs : List GeoStatistics) → Fits a rs → PrefixSumsFit (total w a) (map (total w) rs)
 prefixes-of-fits w a [] h = tt
 prefixes-of-fits w a (r ∷ rs) h =
-    let l = total-fits w a r (h .0) in
+    let l = sums-stay a r (h .0) w in
     (l, subst (λ (t : Total). PrefixSumsFit t (map (total w) rs)) (total-merged w a r ∙ add-is-plus (total w a) (total w r) l) (prefixes-of-fits w (mergeParts a r) rs (h .1)))
 
 -- Totals that fit are never refused; and a fold is refused, with 3, exactly where some total has a prefix sum that leaves the range.

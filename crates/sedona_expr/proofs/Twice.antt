@@ -1,17 +1,18 @@
--- Whether a name comes twice, as a search before each name tells; and marks that tell that a name is new. Assumes nothing.
+-- Whether a name comes twice, as a search before each name tells; names that ascend; and marks that tell that a name is new. Assumes nothing.
 use mathlib.Core.Path.{_≡_, refl, sym, subst, ap, _∙_}
-use mathlib.Core.Bool.{Bool, true, false}
+use mathlib.Core.Bool.{Bool, true, false, _&&_}
 use mathlib.Core.List.{List, [], _∷_}
-use Prim.Native.Nat.{ℕ, suc, _+_, _≤_, _<_}
+use Prim.Native.Nat.{ℕ, zero, suc, _+_, _≤_, _<_}
 use native.Mathlib.Omega.{arith}
 use lib.Dec.{eqb, ltb}
-use lib.ListN.{length, getD, set, take}
+use lib.ListN.{length, getD, set, take, drop, length-drop}
 use lib.Seq.{getD-take, length-take-le, getD-set-same, getD-set-other}
 use borrow.Author.Tests.{eqb-true, eqb-false, ltb-true, ltb-false, le-ltb}
-use Rattle.sedona_expr.specs.Names.{findName, comesBefore, hasBit, withBit}
+use Rattle.sedona_geometry.proofs.Order.{fails}
+use Rattle.sedona_expr.specs.Names.{findName, comesBefore, ascends, hasBit, withBit}
 use Rattle.sedona_expr.specs.Tables.{placeOf}
 use Rattle.sedona_expr.specs.Refusals.{hasTwice}
-use Rattle.sedona_expr.proofs.Searches.{place-holds, once-differ}
+use Rattle.sedona_expr.proofs.Searches.{rest, place-holds, once-differ}
 use Rattle.sedona_expr.proofs.NameSearches.{hit-is-first, no-hit}
 use Rattle.sedona_expr.proofs.Masks.{bit-is-set, bit-stays}
 
@@ -42,6 +43,37 @@ differ-once (n ∷ ns) d = rw (le-ltb (placeOf ns n) (length ns) (go (ltb (place
 
 pub differ-all : (ns : List ℕ) (k : ℕ) → length ns ≤ k → Differ ns k → hasTwice ns ≡ false
 differ-all ns k h d = differ-once ns (λ j l. d j (omega arith))
+
+-- ---- names that ascend: a name at a time, and that all differ
+pub ascends-next : (ns : List ℕ) (i : ℕ) → i + 1 < length ns → ascends (drop i ns) ≡ (ltb (getD ns i 0) (getD ns (i + 1) 0) && ascends (drop (i + 1) ns))
+ascends-next ns i h = rw (rest ns i 0 (omega arith), rest ns (i + 1) 0 h)
+
+one-ascends : (ns : List ℕ) → length ns ≤ 1 → ascends ns ≡ true
+one-ascends [] h = refl
+one-ascends (n ∷ []) h = refl
+one-ascends (n ∷ m ∷ ns) h = absurd (omega arith)
+
+pub ascends-end : (ns : List ℕ) (i : ℕ) → length ns ≤ i + 1 → ascends (drop i ns) ≡ true
+ascends-end ns i h = one-ascends (drop i ns) (omega (arith, length-drop i ns))
+
+both : (a b : Bool) → (a && b) ≡ true → (a ≡ true) × (b ≡ true)
+both true b e = (refl, e)
+both false b e = absurd (fails (sym e) tt)
+
+ascends-less : (ns : List ℕ) → ascends ns ≡ true → (i j : ℕ) → i < j → j < length ns → getD ns i 0 < getD ns j 0
+ascends-less [] e i j h l = absurd (omega arith)
+ascends-less (n ∷ []) e i j h l = absurd (omega arith)
+ascends-less (n ∷ m ∷ ns) e i j h l = go (ltb-true n m (both (ltb n m) (ascends (m ∷ ns)) e .0)) (ascends-less (m ∷ ns) (both (ltb n m) (ascends (m ∷ ns)) e .1)) i j h l
+  where
+    go : n < m → ((i j : ℕ) → i < j → j < length (m ∷ ns) → getD (m ∷ ns) i 0 < getD (m ∷ ns) j 0) → (i j : ℕ) → i < j → j < length (n ∷ m ∷ ns)
+        → getD (n ∷ m ∷ ns) i 0 < getD (n ∷ m ∷ ns) j 0
+    go f g i zero h l = absurd (omega arith)
+    go f g zero (suc zero) h l = f
+    go f g zero (suc (suc j)) h l = omega (arith, g 0 (suc j) (omega arith) (omega arith))
+    go f g (suc i) (suc j) h l = g i j (omega arith) (omega arith)
+
+pub ascending-differ : (ns : List ℕ) → ascends ns ≡ true → hasTwice ns ≡ false
+ascending-differ ns e = differ-once ns (λ j h i l f. absurd (omega (arith, ascends-less ns e i j l h)))
 
 -- ---- by a search among the names before
 -- a hit is one of them

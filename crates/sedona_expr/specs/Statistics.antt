@@ -119,6 +119,23 @@ plusZero a = record {
   «total_envelope_height» = a .«total_envelope_height»;
 }
 
+-- The seven totals.
+pub data Which : Type 0 where
+  geometries sizeBytes points puntal lineal polygonal collection : Which
+
+abbrev pub total : Which → GeoStatistics → Total
+total geometries a = a .«total_geometries»
+total sizeBytes a = a .«total_size_bytes»
+total points a = a .«total_points»
+total puntal a = a .«puntal_count»
+total lineal a = a .«lineal_count»
+total polygonal a = a .«polygonal_count»
+total collection a = a .«collection_count»
+
+-- No sum of theirs leaves the range.
+abbrev pub SumsStay : GeoStatistics → GeoStatistics → Type 0
+SumsStay a b = (w : Which) → sumLeaves (total w a) (total w b) ≡ false
+
 -- A number alone: the record beside it is UNSPECIFIED.
 abbrev pub refused : ℕ → Merged
 refused n = record { number = n; rec = unspecified }
@@ -214,19 +231,6 @@ abbrev pub NoLess : Bbox → Bbox → Type 0
 NoLess c Bbox.Missing = Unit {0}
 NoLess Bbox.Missing (Bbox.Known b) = ⊥
 NoLess (Bbox.Known c) (Bbox.Known b) = boundingBox.NoLess c b
-
--- The seven totals.
-pub data Which : Type 0 where
-  geometries sizeBytes points puntal lineal polygonal collection : Which
-
-abbrev pub total : Which → GeoStatistics → Total
-total geometries a = a .«total_geometries»
-total sizeBytes a = a .«total_size_bytes»
-total points a = a .«total_points»
-total puntal a = a .«puntal_count»
-total lineal a = a .«lineal_count»
-total polygonal a = a .«polygonal_count»
-total collection a = a .«collection_count»
 
 -- The two lengths.
 pub data Side : Type 0 where

@@ -1,9 +1,9 @@
 // The names of columns, which are numbers: the search for one, and whether one comes twice.
 ghost use mathlib.Core.Path.{_≡_};
 ghost use mathlib.Core.Bool.{false};
-ghost use Prim.Native.Nat.{_<_};
-ghost use lib.ListN.{length};
-ghost use Rattle.sedona_expr.specs.Names.{findName, comesBefore, hasBit, withBit};
+ghost use Prim.Native.Nat.{_<_, _≤_};
+ghost use lib.ListN.{length, drop};
+ghost use Rattle.sedona_expr.specs.Names.{isOther, findName, behind, comesBefore, ascends, markOf, hasBit, withBit};
 ghost use Rattle.sedona_expr.specs.Refusals as refusals;
 
 // What a search for a name gives.
@@ -15,11 +15,44 @@ pub struct NameSearch {
     pub compared: usize,
 }
 
-// Compares from the first name on, and ends at the first hit.
+// Whether none of some names is the name. There is no way out before the end, so that many are compared
+// at once.
+fn is_none_of(names: &[u32], name: u32) -> bool
+    ensures { λ r. ⌜ r ≡ refusals.all (isOther name) (now (names .entry)) ⌝ }
+{
+    let mut none = true;
+    let mut i = 0;
+    while i < names.len() {
+        none = none & (names[i] != name);
+        i += 1;
+    }
+    none
+}
+
+// So many names are compared at once.
+const STEP: usize = 8;
+
+// A place before which no name is a hit: that of the first step that has one, or where fewer names are
+// left than a step has.
+fn passed_over(names: &[u32], name: u32) -> usize
+    ensures { λ r. ⌜ (r ≤ length (now (names .entry))) × (findName (now (names .entry)) name ≡ behind r (findName (drop r (now (names .entry))) name)) ⌝ }
+{
+    let mut i = 0;
+    while names.len() - i >= STEP {
+        if !is_none_of(&names[i..i + STEP], name) {
+            return i;
+        }
+        i += STEP;
+    }
+    i
+}
+
+// Compares from the first name on, and ends at the first hit. What the hit's step compares besides is not
+// counted.
 pub fn find_name(names: &[u32], name: u32) -> NameSearch
     ensures { λ r. ⌜ r ≡ findName (now (names .entry)) name ⌝ }
 {
-    let mut i = 0;
+    let mut i = passed_over(names, name);
     while i < names.len() {
         if names[i] == name {
             return NameSearch {
@@ -87,12 +120,21 @@ fn with_bit(word: u64, bit: u32) -> u64
     word | 1 << bit
 }
 
-// The marks are the bits of so many words. 15 low bits of a name tell its mark: 9 the word, so that
-// names side by side have different words, and the next 6 the bit.
+// The marks are the bits of so many words, each of so many.
 const WORDS: usize = 512;
 
-// The same number, for names.
-const LOW: u32 = 512;
+const BITS: u32 = 64;
+
+// What mixes the bits of a name, so that few names in steps of a power of two or of ten have the same
+// mark.
+const FACTOR: u64 = 0xe2b1_71df;
+
+// A name's mark, counted from the first word's first bit: the high bits of the low half of a product.
+fn mark_of(name: u32) -> u32
+    ensures { λ r. ⌜ r ≡ markOf name ⌝ }
+{
+    (name as u64 * FACTOR % 0x1_0000_0000 / 0x2_0000) as u32
+}
 
 // Whether a name comes twice, by marks that are all clear at first: a name whose mark is clear is new,
 // and only where it is set are the names before looked through.
@@ -102,9 +144,9 @@ fn has_twice_by_marks(names: &[u32]) -> bool
     let mut marks = [0u64; WORDS];
     let mut i = 0;
     while i < names.len() {
-        let name = names[i];
-        let word = (name % LOW) as usize;
-        let bit = name / LOW % 64;
+        let mark = mark_of(names[i]);
+        let word = (mark / BITS) as usize;
+        let bit = mark % BITS;
         if comes_again(names, i, has_bit(marks[word], bit)) {
             return true;
         }
@@ -115,12 +157,28 @@ fn has_twice_by_marks(names: &[u32]) -> bool
 }
 
 // The most names that are looked for in pairs. More are quicker by marks, which take time to clear.
-const FEW: usize = 14;
+const FEW: usize = 32;
 
-// Whether a name is twice among them.
+// Whether each name is less than the next. Here too there is no way out before the end.
+fn are_ascending(names: &[u32]) -> bool
+    ensures { λ r. ⌜ r ≡ ascends (now (names .entry)) ⌝ }
+{
+    let mut good = true;
+    let mut i = 0;
+    while i + 1 < names.len() {
+        good = good & (names[i] < names[i + 1]);
+        i += 1;
+    }
+    good
+}
+
+// Whether a name is twice among them. Of names that ascend none is.
 pub(crate) fn has_twice(names: &[u32]) -> bool
     ensures { λ r. ⌜ r ≡ refusals.hasTwice (now (names .entry)) ⌝ }
 {
+    if are_ascending(names) {
+        return false;
+    }
     if names.len() <= FEW {
         return has_twice_by_pairs(names);
     }

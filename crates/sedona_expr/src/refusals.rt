@@ -48,32 +48,21 @@ fn words_refusal(nodes: &[u32]) -> u32
 pub fn is_good_flag(none: bool, flag: u8) -> bool
     ensures { λ r. ⌜ r ≡ refusals.goodFlag none flag ⌝ }
 {
-    if flag == 0 {
-        return none;
-    }
-    if flag == 1 {
-        return true;
-    }
-    if flag == 3 {
-        return true;
-    }
-    if flag == 5 {
-        return true;
-    }
-    flag == 7
+    (flag < 8) & ((flag % 2 == 1) | (none & (flag == 0)))
 }
 
+// Whether every flag is good. It goes to the end of the list whatever is found, as does `are_zero_or_one`:
+// without a way out before, many are tested at once.
 fn are_good_flags(none: bool, flags: &[u8]) -> bool
     ensures { λ r. ⌜ r ≡ refusals.all (refusals.goodFlag none) (now (flags .entry)) ⌝ }
 {
+    let mut good = true;
     let mut i = 0;
     while i < flags.len() {
-        if !is_good_flag(none, flags[i]) {
-            return false;
-        }
+        good = good & is_good_flag(none, flags[i]);
         i += 1;
     }
-    true
+    good
 }
 
 // Doubles not eight a flag, or bad flags.
@@ -97,14 +86,13 @@ fn boxes_refusal(none: bool, doubles: &[f64], flags: &[u8]) -> u32
 pub fn are_zero_or_one(bytes: &[u8]) -> bool
     ensures { λ r. ⌜ r ≡ refusals.all (λ b. ltb b 2) (now (bytes .entry)) ⌝ }
 {
+    let mut good = true;
     let mut i = 0;
     while i < bytes.len() {
-        if bytes[i] >= 2 {
-            return false;
-        }
+        good = good & (bytes[i] < 2);
         i += 1;
     }
-    true
+    good
 }
 
 // Types or known bytes not as many as the records, or a byte that is not 0 or 1.
@@ -226,28 +214,6 @@ fn node_refusal(nodes: &[u32], node: u32, literals: usize, asked: bool, columns:
     0
 }
 
-// The first of two numbers that is not 0.
-fn or_else(number: u32, next: u32) -> u32
-    ensures { λ r. ⌜ r ≡ refusals.orElse number next ⌝ }
-{
-    if number == 0 { next } else { number }
-}
-
-// What the nodes are refused by, upward.
-fn nodes_refusal(nodes: &[u32], literals: usize, asked: bool, columns: usize) -> u32
-    requires { ⌜ length (now nodes) ≤ 4096 ⌝ }
-    ensures { λ r. ⌜ r ≡ refusals.nodesRefusal (now (nodes .entry)) literals (refusals.isLent asked columns) (tables.count (now (nodes .entry))) ⌝ }
-{
-    let mut number = 0;
-    let mut node = 0;
-    while (node as usize) < nodes.len() / NODE {
-        let next = node_refusal(nodes, node, literals, asked, columns);
-        number = or_else(number, next);
-        node += 1;
-    }
-    number
-}
-
 // Counts a use of a node as a child.
 fn mark(marks: &mut [u16; MOST_NODES], node: u32)
     requires { ⌜ refusals.AtMost (now marks) 65534 ⌝ }
@@ -272,33 +238,37 @@ fn mark_children(marks: &mut [u16; MOST_NODES], nodes: &[u32], node: u32)
     }
 }
 
-// Whether each of the first n marks is 1.
+// Whether each of the first n marks is 1. It goes through all of them, as `are_good_flags` does.
 fn are_once(marks: &[u16; MOST_NODES], n: usize) -> bool
     requires { ⌜ n ≤ 1024 ⌝ }
     ensures { λ r. ⌜ r ≡ refusals.allBelow (λ m. eqb (getD (now (marks .entry)) m 0) 1) n ⌝ }
 {
-    let mut i = n;
-    while i > 0 {
-        i -= 1;
-        if marks[i] != 1 {
-            return false;
-        }
+    let mut good = true;
+    let mut i = 0;
+    while i < n {
+        good = good & (marks[i] == 1);
+        i += 1;
     }
-    true
+    good
 }
 
-// A node but the root not used exactly once: by marks, all clear at first.
-fn uses_refusal(nodes: &[u32]) -> u32
-    requires { ⌜ length (now nodes) ≤ 4096 ⌝ }
-    ensures { λ r. ⌜ r ≡ refusals.usesRefusal (now (nodes .entry)) ⌝ }
+// What the nodes are refused by: each upward, then the use count, by marks that are all clear at first.
+// One pass tests the nodes and counts their uses. One node alone has no child, and needs no marks.
+fn tree_refusal(nodes: &[u32], literals: usize, asked: bool, columns: usize) -> u32
+    requires { ⌜ (1 ≤ tables.count (now nodes)) × (length (now nodes) ≤ 4096) ⌝ }
+    ensures { λ r. ⌜ r ≡ refusals.treeRefusal (now (nodes .entry)) literals (refusals.isLent asked columns) ⌝ }
 {
     let count = nodes.len() / NODE;
-    if count == 0 {
-        return 0;
+    if count == 1 {
+        return node_refusal(nodes, 0, literals, asked, columns);
     }
     let mut marks = [0u16; MOST_NODES];
     let mut node = 0;
     while (node as usize) < count {
+        let number = node_refusal(nodes, node, literals, asked, columns);
+        if number != 0 {
+            return number;
+        }
         mark_children(&mut marks, nodes, node);
         node += 1;
     }
@@ -307,18 +277,6 @@ fn uses_refusal(nodes: &[u32]) -> u32
     } else {
         BAD_TREE
     }
-}
-
-// What the nodes are refused by: each upward, then the use count.
-fn tree_refusal(nodes: &[u32], literals: usize, asked: bool, columns: usize) -> u32
-    requires { ⌜ length (now nodes) ≤ 4096 ⌝ }
-    ensures { λ r. ⌜ r ≡ refusals.treeRefusal (now (nodes .entry)) literals (refusals.isLent asked columns) ⌝ }
-{
-    let number = nodes_refusal(nodes, literals, asked, columns);
-    if number != 0 {
-        return number;
-    }
-    uses_refusal(nodes)
 }
 
 // What the table is refused by: its words, then its literals.

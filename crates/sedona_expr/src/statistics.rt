@@ -1,6 +1,7 @@
 // Statistics of a column, a box and totals of what lies in it, after statistics.rs. Any part may be
 // missing: nothing is known of it then.
 ghost use mathlib.Core.Path.{_≡_};
+ghost use mathlib.Core.Bool.{false};
 ghost use lib.IntN.{_+ℤ_};
 ghost use Rattle.sedona_expr.specs.Statistics as statistics;
 use crate::error::OVERFLOW;
@@ -120,8 +121,9 @@ impl Total {
         sum_overflows(a, b)
     }
 
-    // The sum; missing where one is, and where it leaves its range.
+    // The sum, where it stays in its range; missing where one is.
     fn add(self, other: Total) -> Total
+        requires { ⌜ statistics.sumLeaves self other ≡ false ⌝ }
         ensures { λ r. ⌜ r ≡ statistics.addTotals self other ⌝ }
     {
         let Total::Known(a) = self else {
@@ -130,9 +132,6 @@ impl Total {
         let Total::Known(b) = other else {
             return Total::Missing;
         };
-        if sum_overflows(a, b) {
-            return Total::Missing;
-        }
         Total::Known(a + b)
     }
 }
@@ -265,8 +264,9 @@ impl GeoStatistics {
         a1.overflows(b1) || (a2.overflows(b2) || (a3.overflows(b3) || a4.overflows(b4)))
     }
 
-    // Each part merged with its like.
+    // Each part merged with its like, where no sum leaves its range. (Tested before, and not again.)
     fn merge_parts(self, other: GeoStatistics) -> GeoStatistics
+        requires { ⌜ statistics.SumsStay self other ⌝ }
         ensures { λ r. ⌜ r ≡ statistics.mergeParts self other ⌝ }
     {
         let bbox = self.bbox;

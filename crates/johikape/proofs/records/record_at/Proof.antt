@@ -7,7 +7,9 @@ use Rattle.johikape.proofs.records.record_at.Statement.{statement}
 use Rattle.johikape.proofs.records.record_at.Tie as tie
 
 returns : tie.Need-returns
-returns c = c .read .ensures ∙ rw (take-rest (c .before .before .before .before .before .before .before .before .args .doubles .now) (10 * c .before .before .before .before .before .before .before .before .args .i), take-rest (c .before .before .before .before .before .before .before .before .args .totals .now) (7 * c .before .before .before .before .before .before .before .before .args .i))
+returns c =
+    let args = c .before .before .before .before .before .before .args in
+    c .read .ensures ∙ rw (take-rest (args .doubles .now) (10 * args .i), take-rest (args .totals .now) (7 * args .i))
 
 pub record-at-spec : {M : Type 1} → statement M
-record-at-spec = tie.close (tie.spec (λ c. search needs) (λ c. search needs) (λ c. search needs) (λ c. search needs) (λ c. search needs) (λ c. search needs) (λ c. search needs) (λ c. search needs) (λ c. search needs) (λ c. search needs) (λ c. search needs) (λ c. search needs) (λ c. search needs) (λ c. search needs) (λ c κs. search needs) returns)
+record-at-spec = tie.close (tie.spec (λ c. search needs) (λ c. search needs) (λ c. search needs) (λ c. search needs) (λ c. search needs) (λ c. search needs) (λ c. search needs) (λ c. search needs) (λ c. search needs) (λ c. search needs) (λ c. search needs) (λ c. search needs) (λ c κs. search needs) returns)

@@ -3,8 +3,8 @@ use mathlib.Core.Path.{_≡_, sym, _∙_}
 use Prim.Native.Nat.{_-_, _≤_}
 use native.Mathlib.Omega.{arith}
 use lib.ListN.{length, drop}
-use Rattle.sedona_expr.specs.Names.{findName}
-use Rattle.sedona_expr.proofs.Searches.{behind, find-all, find-hit, find-next, find-end}
+use Rattle.sedona_expr.specs.Names.{findName, behind}
+use Rattle.sedona_expr.proofs.Searches.{find-hit, find-next, find-end}
 use borrow.Author.Needs.{needs}
 use Rattle.sedona_expr.proofs.names.find_name.Statement.{statement}
 use Rattle.sedona_expr.proofs.names.find_name.Tie as tie
@@ -16,11 +16,11 @@ abbrev μ-loop : tie.MeasureT-loop
 μ-loop names name i₀ i = length names - i
 
 loop-holds : tie.Need-loop-holds Inv-loop μ-loop
-loop-holds c = (omega arith, find-all (c .args .names .now) (c .args .name))
+loop-holds c = c .passed-over .ensures
 
 returns : tie.Need-returns Inv-loop μ-loop
 returns c =
-    let args = c .before .before .before .before .args in
+    let args = c .before .before .before .before .before .before .args in
     let loop = c .before .before .before .loop in
     let loop-test = c .before .before .loop-test in
     let if1 = c .if1 in
@@ -31,7 +31,7 @@ loop-less c = omega arith
 
 loop-again : tie.Need-loop-again Inv-loop μ-loop
 loop-again c =
-    let args = c .before .before .before .before .args in
+    let args = c .before .before .before .before .before .before .args in
     let loop = c .before .before .before .loop in
     let loop-test = c .before .before .loop-test in
     let if1 = c .if1 in
@@ -39,9 +39,9 @@ loop-again c =
 
 returns-2 : tie.Need-returns-2 Inv-loop μ-loop
 returns-2 c =
-    let args = c .before .before .args in
+    let args = c .before .before .before .before .args in
     let loop = c .before .loop in
     sym (loop .inv .1 ∙ find-end (args .names .now) (loop .i) (args .name) (c .loop-test .left))
 
 pub find-name-spec : {M : Type 1} → statement M
-find-name-spec = tie.close (tie.spec Inv-loop μ-loop loop-holds (λ c. search needs) (λ c. search needs) (λ c. search needs) returns (λ c. search needs) loop-less loop-again returns-2)
+find-name-spec = tie.close (tie.spec Inv-loop μ-loop (λ c κs. tt) loop-holds (λ c. search needs) (λ c. search needs) (λ c. search needs) returns (λ c. search needs) loop-less loop-again returns-2)

@@ -3,7 +3,7 @@ use mathlib.Core.Path.{_≡_, sym, _∙_}
 use Prim.Native.Nat.{ℕ, _-_, _/_, _%_, _≤_}
 use native.Mathlib.Omega.{arith}
 use lib.ListN.{length, getD, length-set, length-replicate}
-use Rattle.sedona_expr.specs.Names.{withBit}
+use Rattle.sedona_expr.specs.Names.{markOf, withBit}
 use Rattle.sedona_expr.proofs.Twice.{Differ, Marked, differ-next, differ-all, hit-before, none-before, clear-is-new, mark-next}
 use borrow.Author.Needs.{needs}
 use Rattle.sedona_expr.proofs.names.has_twice_by_marks.Statement.{statement}
@@ -11,10 +11,10 @@ use Rattle.sedona_expr.proofs.names.has_twice_by_marks.Tie as tie
 
 -- Where a name's mark is.
 abbrev word : ℕ → ℕ
-word n = n % 512
+word n = markOf n / 64
 
 abbrev bit : ℕ → ℕ
-bit n = n / 512 % 64
+bit n = markOf n % 64
 
 abbrev Inv-loop : tie.InvT-loop
 Inv-loop names marks₀ i₀ marks i = (i ≤ length names) × ((length marks ≡ 512) × (Differ names i × Marked word bit marks names i))
@@ -30,16 +30,18 @@ cast-word c = record { fits = omega arith }
 
 comes-again-requires : tie.Need-comes-again-requires Inv-loop μ-loop
 comes-again-requires c κs =
-    let args = c .before .before .before .before .before .args in
-    let loop = c .before .before .before .loop in
-    let loop-test = c .before .before .loop-test in
-    (loop-test .taken, λ e. clear-is-new word bit (loop .marks) (args .names .now) (loop .i) (loop-test .taken) (loop .inv .1 .1 .1) (sym (c .has-bit .ensures) ∙ e))
+    let args = c .before .before .before .before .before .before .args in
+    let loop = c .before .before .before .before .loop in
+    let loop-test = c .before .before .before .loop-test in (
+      loop-test .taken,
+      λ e. clear-is-new word bit (loop .marks) (args .names .now) (loop .i) (loop-test .taken) (loop .inv .1 .1 .1) (rw (c .before .mark-of .ensures) at (sym (c .has-bit .ensures) ∙ e)),
+    )
 
 returns : tie.Need-returns Inv-loop μ-loop
 returns c =
-    let args = c .before .before .before .before .before .before .before .args in
-    let loop = c .before .before .before .before .before .loop in
-    let loop-test = c .before .before .before .before .loop-test in
+    let args = c .before .before .before .before .before .before .before .before .args in
+    let loop = c .before .before .before .before .before .before .loop in
+    let loop-test = c .before .before .before .before .before .loop-test in
     let comes-again = c .before .comes-again in
     sym (hit-before (args .names .now) (loop .i) (loop-test .taken) (sym (comes-again .ensures) ∙ c .if1 .taken))
 
@@ -48,12 +50,13 @@ loop-less c = omega arith
 
 loop-again : tie.Need-loop-again Inv-loop μ-loop
 loop-again c =
-    let args = c .before .before .before .before .before .before .before .before .args in
-    let loop = c .before .before .before .before .before .before .loop in
-    let loop-test = c .before .before .before .before .before .loop-test in
+    let args = c .before .before .before .before .before .before .before .before .before .args in
+    let loop = c .before .before .before .before .before .before .before .loop in
+    let loop-test = c .before .before .before .before .before .before .loop-test in
     let comes-again = c .before .before .comes-again in
+    let mark-of = c .before .before .before .before .mark-of in
     let name : ℕ = getD (args .names .now) (loop .i) 0 in
-    rw (c .with-bit .ensures) (
+    rw (c .with-bit .ensures, mark-of .ensures) (
       omega arith,
       (
         length-set (loop .marks) (word name) (withBit (getD (loop .marks) (word name) 0) (bit name)) ∙ loop .inv .1 .0,
@@ -73,6 +76,6 @@ returns-2 c =
 pub has-twice-by-marks-spec : {M : Type 1} → statement M
 has-twice-by-marks-spec =
     tie.close
-    (tie.spec Inv-loop μ-loop loop-holds (λ c. search needs) (λ c. search needs) cast-word (λ c. search needs) (λ c. search needs) (λ c κs. omega arith)
+    (tie.spec Inv-loop μ-loop loop-holds (λ c. search needs) (λ c. search needs) (λ c κs. tt) cast-word (λ c. search needs) (λ c. search needs) (λ c κs. omega arith)
     comes-again-requires returns (λ c. search needs) (λ c. search needs) (λ c κs. omega arith) (λ c. search needs) (λ c. search needs) (λ c. search needs)
     loop-less loop-again returns-2)

@@ -13,7 +13,7 @@ tree-refusal-requires : tie.Need-tree-refusal-requires
 tree-refusal-requires c κs =
     let args = c .before .before .before .before .before .args in
     let table-refusal = c .before .table-refusal in
-    table-pass (table (args .nodes .now) (args .literals .now) (args .literal-flags .now)) (table-refusal .result) (table-refusal .ensures) (c .if1 .left) .1
+    table-pass (table (args .nodes .now) (args .literals .now) (args .literal-flags .now)) (table-refusal .result) (table-refusal .ensures) (c .if1 .left)
 
 returns-2 : tie.Need-returns-2
 unfolding boxRefusal

@@ -1,38 +1,41 @@
--- `refusals::is_good_flag` meets its contract. Assumes nothing.
-use borrow.Author.Tests.{eq-eqb, ne-eqb}
+-- `refusals::is_good_flag` meets its contract: below 8, the odd ones. Assumes nothing.
+use mathlib.Core.Path.{_≡_, refl}
+use mathlib.Core.Bool.{Bool, true, false, _&&_, _||_, and-true}
+use Prim.Native.Nat.{ℕ, zero, suc, _%_}
+use native.Mathlib.Omega.{arith}
+use lib.Dec.{eqb, ltb}
+use borrow.Author.Tests.{ne-eqb, le-ltb}
 use Rattle.sedona_expr.specs.Refusals.{goodFlag}
 use Rattle.sedona_expr.proofs.refusals.is_good_flag.Statement.{statement}
 use Rattle.sedona_expr.proofs.refusals.is_good_flag.Tie as tie
 
+and-false : (b : Bool) → (b && false) ≡ false
+and-false true = refl
+and-false false = refl
+
+by-cases : (none : Bool) (f : ℕ) → (ltb f 8 && (eqb (f % 2) 1 || (none && eqb f 0))) ≡ goodFlag none f
+unfolding goodFlag
+by-cases none zero = and-true none
+by-cases none (suc zero) = refl
+by-cases none (suc (suc zero)) = and-false none
+by-cases none (suc (suc (suc zero))) = refl
+by-cases none (suc (suc (suc (suc zero)))) = and-false none
+by-cases none (suc (suc (suc (suc (suc zero))))) = refl
+by-cases none (suc (suc (suc (suc (suc (suc zero)))))) = and-false none
+by-cases none (suc (suc (suc (suc (suc (suc (suc zero))))))) = refl
+by-cases none (suc (suc (suc (suc (suc (suc (suc (suc f)))))))) =
+    let n : ℕ = suc (suc (suc (suc (suc (suc (suc (suc f))))))) in
+    rw (
+      le-ltb n 8 (omega arith),
+      ne-eqb n 0 (λ e. absurd (omega arith)),
+      ne-eqb n 1 (λ e. absurd (omega arith)),
+      ne-eqb n 3 (λ e. absurd (omega arith)),
+      ne-eqb n 5 (λ e. absurd (omega arith)),
+      ne-eqb n 7 (λ e. absurd (omega arith)),
+    )
+
 returns : tie.Need-returns
-unfolding goodFlag
-returns c = rw (eq-eqb _ _ (c .if1 .taken))
-
-returns-2 : tie.Need-returns-2
-unfolding goodFlag
-returns-2 c = rw (ne-eqb _ _ (c .before .if1 .left), eq-eqb _ _ (c .if2 .taken))
-
-returns-3 : tie.Need-returns-3
-unfolding goodFlag
-returns-3 c = rw (ne-eqb _ _ (c .before .before .if1 .left), ne-eqb _ _ (c .before .if2 .left), eq-eqb _ _ (c .if3 .taken))
-
-returns-4 : tie.Need-returns-4
-unfolding goodFlag
-returns-4 c =
-    let if1 = c .before .before .before .if1 in
-    let if2 = c .before .before .if2 in
-    let if3 = c .before .if3 in
-    let if4 = c .if4 in
-    rw (ne-eqb _ _ (if1 .left), ne-eqb _ _ (if2 .left), ne-eqb _ _ (if3 .left), eq-eqb _ _ (if4 .taken))
-
-returns-5 : tie.Need-returns-5
-unfolding goodFlag
-returns-5 c =
-    let if1 = c .before .before .before .if1 in
-    let if2 = c .before .before .if2 in
-    let if3 = c .before .if3 in
-    let if4 = c .if4 in
-    rw (ne-eqb _ _ (if1 .left), ne-eqb _ _ (if2 .left), ne-eqb _ _ (if3 .left), ne-eqb _ _ (if4 .left))
+returns c = by-cases (c .args .none) (c .args .flag)
 
 pub is-good-flag-spec : {M : Type 1} → statement M
-is-good-flag-spec = tie.close (tie.spec returns returns-2 returns-3 returns-4 returns-5)
+is-good-flag-spec = tie.close (tie.spec returns)

@@ -22,7 +22,7 @@ tree-refusal-requires : tie.Need-tree-refusal-requires
 tree-refusal-requires c κs =
     let args = c .before .before .before .before .before .before .before .before .before .before .before .before .args in
     let table-refusal = c .before .before .before .table-refusal in
-    table-pass (table (args .nodes .now) (args .literals .now) (args .literal-flags .now)) (table-refusal .result) (table-refusal .ensures) (c .before .before .if1 .left) .1
+    table-pass (table (args .nodes .now) (args .literals .now) (args .literal-flags .now)) (table-refusal .result) (table-refusal .ensures) (c .before .before .if1 .left)
 
 returns-3 : tie.Need-returns-3
 unfolding refusal

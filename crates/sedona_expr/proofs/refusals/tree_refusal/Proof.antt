@@ -1,17 +1,90 @@
--- `refusals::tree_refusal` meets its contract. Assumes nothing.
-use Rattle.sedona_expr.specs.Refusals.{treeRefusal}
-use Rattle.sedona_expr.proofs.Passing.{or-else-stop, or-else-next}
+-- `refusals::tree_refusal` meets its contract: nothing refuses the nodes so far, and the marks count their uses. Assumes nothing.
+use mathlib.Core.Path.{_≡_, refl, subst, _∙_}
+use Prim.Native.Nat.{ℕ, _≤_, _-_}
+use native.Mathlib.Nat.{le-antisymm}
+use native.Mathlib.Omega.{arith}
+use lib.ListN.{getD-replicate, length-replicate}
+use Rattle.sedona_expr.specs.Tables.{count}
+use Rattle.sedona_expr.specs.Refusals.{isLent, nodesRefusal, Counted, uses, usesRefusal, treeRefusal}
+use Rattle.sedona_expr.proofs.Passing.{or-else-stop, or-else-next, nodes-next, nodes-stop, one-node}
+use Rattle.sedona_expr.proofs.Marks.{marks-small, uses-next, once}
 use borrow.Author.Needs.{needs}
 use Rattle.sedona_expr.proofs.refusals.tree_refusal.Statement.{statement}
 use Rattle.sedona_expr.proofs.refusals.tree_refusal.Tie as tie
 
-returns : tie.Need-returns
-unfolding treeRefusal
-returns c = or-else-stop _ (c .before .nodes-refusal .ensures) (c .if1 .taken)
+abbrev Inv-loop : tie.InvT-loop
+Inv-loop nodes literals asked columns count marks₀ node₀ marks node = (node ≤ count) × ((nodesRefusal nodes literals (isLent asked columns) node ≡ 0) × Counted marks (uses nodes node))
 
-returns-2 : tie.Need-returns-2
+abbrev μ-loop : tie.MeasureT-loop
+μ-loop nodes literals asked columns count marks₀ node₀ marks node = count - node
+
+returns : tie.Need-returns Inv-loop μ-loop
+returns c =
+    let args = c .before .before .before .args in
+    c .node-refusal .ensures ∙ one-node (args .nodes .now) (args .literals) (isLent (args .asked) (args .columns)) (c .before .if1 .taken)
+
+loop-holds : tie.Need-loop-holds Inv-loop μ-loop
+loop-holds c = (omega arith, (refl, (length-replicate {A = ℕ} 1024 0, λ m h. getD-replicate 1024 m 0 0 h)))
+
+returns-2 : tie.Need-returns-2 Inv-loop μ-loop
 unfolding treeRefusal
-returns-2 c = or-else-next (c .before .before .nodes-refusal .ensures) (c .before .if1 .left) (c .uses-refusal .ensures)
+returns-2 c =
+    let args = c .before .before .before .before .before .before .args in
+    let loop = c .before .before .before .loop in
+    or-else-stop _
+    (nodes-stop (args .nodes .now) (args .literals) (isLent (args .asked) (args .columns)) (loop .node) (loop .inv .1 .0) (c .before .node-refusal2 .ensures) (count (args .nodes .now)) (c .before .before .loop-test .taken) (c .if2 .taken))
+    (c .if2 .taken)
+
+mark-children-requires : tie.Need-mark-children-requires Inv-loop μ-loop
+mark-children-requires c κs =
+    let start = c .before .before .before .before .before .before .before in
+    let loop = c .before .before .before .before .loop in
+    marks-small (loop .marks) (start .args .nodes .now) (loop .node) (omega (arith, start .pre .1, loop .inv .0)) (loop .inv .1 .1)
+
+add-node : tie.Need-add-node Inv-loop μ-loop
+add-node c = record { fits = omega (arith, c .before .before .before .before .before .before .before .before .pre .1) }
+
+loop-less : tie.Need-loop-less Inv-loop μ-loop
+loop-less c = omega arith
+
+loop-again : tie.Need-loop-again Inv-loop μ-loop
+loop-again c =
+    let args = c .before .before .before .before .before .before .before .before .args in
+    let loop = c .before .before .before .before .before .loop in (
+      omega arith,
+      (
+        nodes-next (args .nodes .now) (args .literals) (isLent (args .asked) (args .columns)) (loop .node) (loop .inv .1 .0) (c .before .before .before .node-refusal2 .ensures) (c .before .before .if2 .left),
+        uses-next (args .nodes .now) (loop .marks) (c .mark-children .last .0) (loop .node) (loop .inv .1 .1) (c .mark-children .ensures),
+      ),
+    )
+
+are-once-requires : tie.Need-are-once-requires Inv-loop μ-loop
+are-once-requires c κs = omega (arith, c .before .before .before .before .before .pre .1)
+
+returns-3 : tie.Need-returns-3 Inv-loop μ-loop
+unfolding treeRefusal usesRefusal
+returns-3 c =
+    let start = c .before .before .before .before .before .before .before in
+    let nodes = start .args .nodes .now in
+    let loop = c .before .before .before .before .loop in
+    let loop-test = c .before .before .before .loop-test in
+    let all : loop .node ≡ count nodes = le-antisymm (loop .inv .0) (loop-test .left) in
+    or-else-next refl (subst (λ (n : ℕ). nodesRefusal nodes (start .args .literals) (isLent (start .args .asked) (start .args .columns)) n ≡ 0) all (loop .inv .1 .0))
+    (rw (← once nodes (loop .marks) (loop .node) (loop .inv .0) (loop-test .left) (start .pre .1) (loop .inv .1 .1), ← c .before .are-once .ensures, c .if3 .taken))
+
+returns-4 : tie.Need-returns-4 Inv-loop μ-loop
+unfolding treeRefusal usesRefusal
+returns-4 c =
+    let start = c .before .before .before .before .before .before .before in
+    let nodes = start .args .nodes .now in
+    let loop = c .before .before .before .before .loop in
+    let loop-test = c .before .before .before .loop-test in
+    let all : loop .node ≡ count nodes = le-antisymm (loop .inv .0) (loop-test .left) in
+    or-else-next refl (subst (λ (n : ℕ). nodesRefusal nodes (start .args .literals) (isLent (start .args .asked) (start .args .columns)) n ≡ 0) all (loop .inv .1 .0))
+    (rw (← once nodes (loop .marks) (loop .node) (loop .inv .0) (loop-test .left) (start .pre .1) (loop .inv .1 .1), ← c .before .are-once .ensures, c .if3 .left))
 
 pub tree-refusal-spec : {M : Type 1} → statement M
-tree-refusal-spec = tie.close (tie.spec (λ c κs. search needs) returns (λ c κs. search needs) returns-2)
+tree-refusal-spec =
+    tie.close
+    (tie.spec Inv-loop μ-loop (λ c κs. tt) returns loop-holds (λ c. search needs) (λ c κs. tt) returns-2 mark-children-requires add-node loop-less loop-again
+    (λ c. omega arith) are-once-requires returns-3 returns-4)

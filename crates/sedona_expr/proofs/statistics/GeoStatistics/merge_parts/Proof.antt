@@ -1,5 +1,5 @@
 -- `GeoStatistics::merge_parts` meets its contract. Assumes nothing.
-use Rattle.sedona_expr.specs.Statistics.{mergeParts}
+use Rattle.sedona_expr.specs.Statistics.{mergeParts, geometries, sizeBytes, points, puntal, lineal, polygonal, collection}
 use Rattle.sedona_expr.proofs.statistics.GeoStatistics.merge_parts.Statement.{statement}
 use Rattle.sedona_expr.proofs.statistics.GeoStatistics.merge_parts.Tie as tie
 
@@ -20,4 +20,14 @@ returns c = λ i. record {
 }
 
 pub merge-parts-spec : {M : Type 1} → statement M
-merge-parts-spec = tie.close (tie.spec (λ c κs. tt) (λ c κs. tt) (λ c κs. tt) (λ c κs. tt) (λ c κs. tt) (λ c κs. tt) (λ c κs. tt) (λ c κs. tt) (λ c κs. tt) (λ c κs. tt) (λ c κs. tt) returns)
+merge-parts-spec =
+    tie.close
+    (tie.spec (λ c κs. tt) (λ c κs. tt)
+    (λ c κs. c .before .before .pre geometries)
+    (λ c κs. c .before .before .before .pre sizeBytes)
+    (λ c κs. c .before .before .before .before .pre points)
+    (λ c κs. c .before .before .before .before .before .pre puntal)
+    (λ c κs. c .before .before .before .before .before .before .pre lineal)
+    (λ c κs. c .before .before .before .before .before .before .before .pre polygonal)
+    (λ c κs. c .before .before .before .before .before .before .before .before .pre collection)
+    (λ c κs. tt) (λ c κs. tt) returns)

@@ -1,11 +1,10 @@
--- `Total::add` meets its contract: a sum that is tested fits. Assumes nothing.
+-- `Total::add` meets its contract: a sum that does not leave its range fits. Assumes nothing.
 use borrow.Author.Needs.{needs}
 use mir.Syntax.{w64}
 use mir.Val.{SFits}
 use mir.Facts.{toZ-ofZ}
-use mathlib.Core.Path.{sym, _∙_}
 use lib.IntN.{_+ℤ_}
-use Rattle.sedona_expr.specs.Statistics.{addTotals}
+use Rattle.sedona_expr.specs.Statistics.{addTotals, sumLeaves}
 use Rattle.sedona_expr.proofs.Whole.{stays-fits}
 use Rattle.sedona_expr.proofs.statistics.Total.add.Statement.{statement}
 use Rattle.sedona_expr.proofs.statistics.Total.add.Tie as tie
@@ -18,42 +17,22 @@ returns-2 : tie.Need-returns-2
 unfolding addTotals
 returns-2 c = rw (c .before .before .before .self .given .1, c .enum-told2 .given .1)
 
-returns-3 : tie.Need-returns-3
-unfolding addTotals
-returns-3 c =
-    let A : SFits w64 (c .before .before .before .before .before .before .self .given .0 .0) = search needs in
-    let B : SFits w64 (c .before .before .before .other .given .0 .0) = search needs in
-    rw (
-      c .before .before .before .before .before .before .self .given .1,
-      c .before .before .before .other .given .1,
-      ← rw (toZ-ofZ A, toZ-ofZ B) at (c .before .sum-overflows .ensures),
-      c .if1 .taken,
-    )
-
-add-sum : tie.Need-add-t6
+add-sum : tie.Need-add-t5
+unfolding sumLeaves
 add-sum c =
-    let A : SFits w64 (c .before .before .before .before .before .before .self .given .0 .0) = search needs in
-    let B : SFits w64 (c .before .before .before .other .given .0 .0) = search needs in
-    rw (toZ-ofZ A, toZ-ofZ B)
-    (stays-fits (c .before .before .before .before .before .before .self .given .0 .0 +ℤ c .before .before .before .other .given .0 .0)
-    (sym (rw (toZ-ofZ A, toZ-ofZ B) at (c .before .sum-overflows .ensures)) ∙ c .if1 .left))
+    let A : SFits w64 (c .before .before .before .before .self .given .0 .0) = search needs in
+    let B : SFits w64 (c .before .other .given .0 .0) = search needs in
+    let s = rw (c .before .before .before .before .self .given .1, c .before .other .given .1) at (c .before .before .before .before .before .before .pre) in
+    rw (toZ-ofZ A, toZ-ofZ B) (stays-fits (c .before .before .before .before .self .given .0 .0 +ℤ c .before .other .given .0 .0) s)
 
-returns-4 : tie.Need-returns-4
-unfolding addTotals
-returns-4 c =
-    let A : SFits w64 (c .before .before .before .before .before .before .self .given .0 .0) = search needs in
-    let B : SFits w64 (c .before .before .before .other .given .0 .0) = search needs in
-    let e = rw (toZ-ofZ A, toZ-ofZ B) at (c .before .sum-overflows .ensures) in
-    let F = stays-fits (c .before .before .before .before .before .before .self .given .0 .0 +ℤ c .before .before .before .other .given .0 .0) (sym e ∙ c .if1 .left) in
-    rw (
-      c .before .before .before .before .before .before .self .given .1,
-      c .before .before .before .other .given .1,
-      toZ-ofZ A,
-      toZ-ofZ B,
-      toZ-ofZ F,
-      ← e,
-      c .if1 .left,
-    )
+returns-3 : tie.Need-returns-3
+unfolding addTotals sumLeaves
+returns-3 c =
+    let A : SFits w64 (c .before .before .before .before .self .given .0 .0) = search needs in
+    let B : SFits w64 (c .before .other .given .0 .0) = search needs in
+    let s = rw (c .before .before .before .before .self .given .1, c .before .other .given .1) at (c .before .before .before .before .before .before .pre) in
+    let F = stays-fits (c .before .before .before .before .self .given .0 .0 +ℤ c .before .other .given .0 .0) s in
+    rw (c .before .before .before .before .self .given .1, c .before .other .given .1, toZ-ofZ A, toZ-ofZ B, toZ-ofZ F, s)
 
 pub add-spec : {M : Type 1} → statement M
-add-spec = tie.close (tie.spec (λ c. search needs) (λ c. search needs) returns (λ c. search needs) (λ c. search needs) returns-2 (λ c κs. tt) returns-3 add-sum returns-4)
+add-spec = tie.close (tie.spec (λ c. search needs) (λ c. search needs) returns (λ c. search needs) (λ c. search needs) returns-2 add-sum returns-3)
