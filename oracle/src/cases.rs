@@ -49,8 +49,8 @@ const HEADER: &str = "\
 ";
 
 /// The case file: a sweep of every call whose operands are listed, and the cases of singles.txt,
-/// filters.txt, layouts.txt, has_z.txt, names.txt, wkb.txt, gdal.txt, containing.txt, plus_zero.txt and
-/// tariff.txt.
+/// filters.txt, layouts.txt, has_z.txt, names.txt, wkb.txt, gdal.txt, containing.txt, plus_zero.txt,
+/// tariff.txt and shorter_ways.txt.
 pub fn cases(calls: &[Call]) -> String {
     let sweeps: String = calls
         .iter()
@@ -82,6 +82,7 @@ fn singles() -> String {
         include_str!("containing.txt"),
         include_str!("plus_zero.txt"),
         include_str!("tariff.txt"),
+        include_str!("shorter_ways.txt"),
     ];
     let lines = files.into_iter().flat_map(str::lines);
     lines.map(|line| spelled(line) + "\n").collect()

@@ -5,11 +5,21 @@ use crate::filters::Tables;
 use crate::names::{MOST_COLUMNS, Many};
 use crate::random::Random;
 
-/// From a name to the next. The large ones leave the low bits as they are.
-const STEPS: [u32; 7] = [0, 1, 2, 3, 512, 32768, 65536];
+/// From a name to the next. The large ones leave the low bits as they are; with the last two names fall.
+const STEPS: [u32; 9] = [
+    0,
+    1,
+    2,
+    3,
+    512,
+    32768,
+    65536,
+    0u32.wrapping_sub(1),
+    0u32.wrapping_sub(65536),
+];
 
 impl Random<'_> {
-    /// Many columns: a few, some, about 900 or any number. Of eight steps one is any odd number, with
+    /// Many columns: a few, some, about 900 or any number. Of ten steps one is any odd number, with
     /// which no name comes twice. The last name is any, the next one, or one that is there.
     pub fn many(&mut self) -> Many {
         let count = match self.below(4) {
@@ -18,7 +28,7 @@ impl Random<'_> {
             2 => 890 + self.below(21),
             _ => self.below(MOST_COLUMNS as usize + 1),
         };
-        let step = match STEPS.get(self.below(8)) {
+        let step = match STEPS.get(self.below(STEPS.len() + 1)) {
             Some(step) => *step,
             None => self.bits() as u32 | 1,
         };

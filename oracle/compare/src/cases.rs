@@ -1,6 +1,6 @@
 //! What calls are made with, drawn from a seed.
 
-use crate::layout::{BOX_FLAGS, Bounds, PARTS, Record, Records};
+use crate::layout::{BOX, BOX_FLAGS, Bounds, M, PARTS, Record, Records, Z};
 use johikape::Interval;
 use oracle::bounding_box::BoundingBox;
 use oracle::cases::VALUES;
@@ -134,17 +134,17 @@ pub struct RecordCase {
 impl Case for RecordCase {
     fn draw(random: &mut Random) -> Self {
         let doubles = random.doubles(20, 10);
-        let [a, b] = array::from_fn(|place| record(random, &doubles[10 * place..], 8));
+        let [a, b] = array::from_fn(|place| record(random, &doubles[10 * place..], &BOX_FLAGS, 8));
         RecordCase { a, b }
     }
 }
 
-/// A record of drawn doubles. One in so many of its parts is missing; of eight times as many records
-/// one has any flags, and one a flag too many or too few. Of eight one has totals at the ends of
-/// their range.
-fn record(random: &mut Random, doubles: &[f64], one_in: usize) -> Record {
+/// A record of drawn doubles, whose box has one of these flags. One in so many of its parts is missing;
+/// of eight times as many records one has any flags, and one a flag too many or too few. Of eight one
+/// has totals at the ends of their range.
+fn record(random: &mut Random, doubles: &[f64], box_flags: &[u8], one_in: usize) -> Record {
     let is_at_ends = random.below(8) == 0;
-    let mut good = u32::from(BOX_FLAGS[random.below(4)]);
+    let mut good = u32::from(box_flags[random.below(box_flags.len())]);
     if random.below(one_in) == 0 {
         good = 0;
     }
@@ -170,15 +170,21 @@ fn record(random: &mut Random, doubles: &[f64], one_in: usize) -> Record {
 
 impl Case for Records {
     /// Of four folds one can be long; of eight one has a list that is too short or too long. The
-    /// parts of some lists are seldom missing, so that their sums are known to the end.
+    /// parts of some lists are seldom missing, so that their sums are known to the end; of half of these
+    /// each box has z and m, so that most records know every part.
     fn draw(random: &mut Random) -> Self {
         let most = [8, 8, 8, MOST_RECORDS][random.below(4)];
         let count = random.below(most + 1);
         let one_in = [4, 16, 64, 1024][random.below(4)];
+        let box_flags: &[u8] = if random.below(2) == 0 {
+            &[BOX | Z | M]
+        } else {
+            &BOX_FLAGS
+        };
         let doubles = random.doubles(10 * count, 10);
         let mut records = Records::default();
         for doubles in doubles.chunks(10) {
-            records.push(&record(random, doubles, one_in));
+            records.push(&record(random, doubles, box_flags, one_in));
         }
         let is_longer = random.below(2) == 0;
         match random.below(32) {
@@ -229,7 +235,7 @@ impl Case for TariffCase {
     /// total stands. Of eight cases one has a bad known byte, or a list that is too short or too long.
     fn draw(random: &mut Random) -> Self {
         let doubles = random.doubles(10, 10);
-        let mut record = record(random, &doubles, 8);
+        let mut record = record(random, &doubles, &BOX_FLAGS, 8);
         if let Some(size) = random.size() {
             record.totals[SIZE_BYTES] = size;
         }

@@ -17,9 +17,9 @@ pub const TWO_PARTS: u32 = 1;
 pub const BAD_FLAGS: u32 = 8;
 
 /// Flags of a box, or of a record's: there is one, it knows z, it knows m.
-const BOX: u8 = 1;
-const Z: u8 = 2;
-const M: u8 = 4;
+pub const BOX: u8 = 1;
+pub const Z: u8 = 2;
+pub const M: u8 = 4;
 
 /// The flag of a record's type set, of its first total and of its first extent.
 const TYPES: u32 = 8;
