@@ -36,6 +36,13 @@ impl Draws {
         numbers
     }
 
+    /// Puts numbers into a drawn order.
+    pub fn shuffle(&mut self, numbers: &mut [u32]) {
+        for last in (1..numbers.len()).rev() {
+            numbers.swap(last, self.bits() as usize % (last + 1));
+        }
+    }
+
     /// A box of longitudes, latitudes, depths and degrees. Its x wraps around where it crosses the
     /// antimeridian.
     pub fn bounding_box(&mut self) -> BoundingBox {

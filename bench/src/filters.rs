@@ -1,9 +1,7 @@
 //! Rows of filters: may a file match, and the filter's box.
 
-use crate::by_name::ByName;
 use crate::draws::Draws;
 use crate::layout::{Columns, Ends, Filter};
-use crate::library;
 use crate::timing::{Bench, Row};
 use oracle::bounding_box::BoundingBox;
 use oracle::interval::{Interval, IntervalTrait};
@@ -112,20 +110,22 @@ impl Query {
             self.row(self.name("evaluate by position")),
             |file| self.tree.evaluate(&file.by_position),
             answer,
-            |file| library::evaluate_by_position(&self.filter, &file.records),
+            |library| {
+                let evaluate = library.evaluate_by_position()?;
+                Some(move |file: &File| evaluate(&self.filter, &file.records))
+            },
         );
     }
 
     pub fn time_by_name(&self, bench: &Bench, name: String) {
-        let by = |library: ByName| {
-            move |file: &File| library.evaluate(&self.filter, &file.records, &file.names)
-        };
-        bench.row_beside(
+        bench.row(
             self.row(name),
             |file| self.tree.evaluate(&file.by_name),
             answer,
-            by(bench.now),
-            bench.before.map(by),
+            |library| {
+                let evaluate = library.evaluate_by_name()?;
+                Some(move |file: &File| evaluate(&self.filter, &file.records, &file.names))
+            },
         );
     }
 
@@ -139,7 +139,10 @@ impl Query {
             },
             |(name, _)| self.tree.filter_bbox(name),
             |bbox| (0, Ends::of(bbox)),
-            |(_, number)| library::filter_bbox(&self.filter, *number),
+            |library| {
+                let filter_bbox = library.filter_bbox()?;
+                Some(move |(_, number): &(String, u32)| filter_bbox(&self.filter, *number))
+            },
         );
     }
 }

@@ -115,7 +115,7 @@ fn number(column: &Column) -> u32 {
     column.name()[1..].parse().expect("a letter and a number")
 }
 
-/// A record of which every part is known.
+/// A record of which every part is known; its box may lack z and m.
 #[derive(Debug, Default, PartialEq)]
 pub struct Record {
     pub doubles: [f64; 10],

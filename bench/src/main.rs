@@ -2,11 +2,10 @@
 //! the same inputs in one process, and prints a table in Markdown.
 //!
 //! `bench [WORD]..`: only rows whose name has one of the words. BENCH_MS: milliseconds a row.
-//! BENCH_BEFORE: the shared library of an earlier version, timed too in the rows of evaluate by name;
-//! BENCH_NOW: that of this one, so that both are loaded.
+//! BENCH_BEFORE: the shared library of an earlier version, timed too in each row. BENCH_NOW: that of this
+//! one, which is loaded then, and else linked.
 
 mod boxes;
-mod by_name;
 mod draws;
 mod filters;
 mod layout;

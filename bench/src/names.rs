@@ -2,7 +2,6 @@
 
 use crate::draws::Draws;
 use crate::filters::Query;
-use crate::library;
 use crate::timing::{Bench, Row};
 
 /// The widest table.
@@ -13,7 +12,10 @@ pub fn rows(bench: &Bench) {
         let count = columns + 1;
         time_leaf(bench, "dense names", &steps(count, 1));
         time_leaf(bench, "drawn names", &Draws::new().different(count));
-        time_leaf(bench, "names with equal low bits", &steps(count, 65_536));
+        let mut equal = steps(count, 65_536);
+        time_leaf(bench, "names with equal low bits", &equal);
+        Draws::new().shuffle(&mut equal);
+        time_leaf(bench, "names with equal low bits, shuffled", &equal);
     }
     time_search(bench);
 }
@@ -60,7 +62,10 @@ fn time_search(bench: &Bench) {
                 Some(place) => (true, place, place + 1),
                 None => (false, WIDEST, WIDEST),
             },
-            |name| library::find_name(names, *name),
+            |library| {
+                let find_name = library.find_name()?;
+                Some(move |name: &u32| find_name(names, *name))
+            },
         );
     }
 }

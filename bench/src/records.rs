@@ -2,27 +2,38 @@
 
 use crate::draws::Draws;
 use crate::layout::{Record, Records};
-use crate::library;
 use crate::timing::{Bench, Row};
+use oracle::bounding_box::BoundingBox;
 use oracle::statistics::GeoStatistics;
 use oracle::types::GeometryTypeAndDimensionsSet;
 
 pub fn rows(bench: &Bench) {
     for count in [10, 1_000, 100_000] {
-        let mut draws = Draws::new();
-        let records: Vec<GeoStatistics> = (0..count).map(|_| record(&mut draws)).collect();
-        let lists = Records::of(&records).expect(KNOWN);
-        bench.row(
-            Row {
-                name: format!("fold, a record of {count}"),
-                inputs: &[(records, lists)],
-                parts: count,
-            },
-            |(records, _)| fold(records),
-            |folded| (0, Record::of(folded).expect(KNOWN)),
-            |(_, lists)| library::fold(lists),
-        );
+        time(bench, count, "", |record| record);
     }
+    for count in [10, 1_000] {
+        time(bench, count, " without z", without_z);
+    }
+}
+
+fn time(bench: &Bench, count: usize, kind: &str, made: fn(GeoStatistics) -> GeoStatistics) {
+    let mut draws = Draws::new();
+    let record = |_| made(record(&mut draws));
+    let records: Vec<GeoStatistics> = (0..count).map(record).collect();
+    let lists = Records::of(&records).expect(KNOWN);
+    bench.row(
+        Row {
+            name: format!("fold, a record of {count}{kind}"),
+            inputs: &[(records, lists)],
+            parts: count,
+        },
+        |(records, _)| fold(records),
+        |folded| (0, Record::of(folded).expect(KNOWN)),
+        |library| {
+            let fold = library.fold()?;
+            Some(move |(_, lists): &(Vec<GeoStatistics>, Records)| fold(lists))
+        },
+    );
 }
 
 const KNOWN: &str = "every part of these records is known";
@@ -50,4 +61,10 @@ fn record(draws: &mut Draws) -> GeoStatistics {
     record
         .with_geometry_types(Some(types))
         .with_bbox(Some(draws.bounding_box()))
+}
+
+fn without_z(record: GeoStatistics) -> GeoStatistics {
+    let flat = |bbox: &BoundingBox| BoundingBox::xyzm(*bbox.x(), *bbox.y(), None, *bbox.m());
+    let bbox = record.bbox().map(flat);
+    record.with_bbox(bbox)
 }

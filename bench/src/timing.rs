@@ -1,10 +1,10 @@
 //! Calls timed in turns.
 
-use crate::by_name::ByName;
+use crate::library::Library;
+use std::env;
 use std::fmt::Debug;
 use std::hint::black_box;
 use std::time::{Duration, Instant};
-use std::{array, env};
 
 /// About how long a batch is: far over what reading the clock takes, and so short that many batches
 /// are left in peace by whatever else the machine does.
@@ -15,8 +15,8 @@ const FEWEST_ROUNDS: usize = 15;
 pub struct Bench {
     words: Vec<String>,
     budget: Duration,
-    pub now: ByName,
-    pub before: Option<ByName>,
+    now: Library,
+    before: Option<Library>,
 }
 
 pub struct Row<'a, I> {
@@ -31,23 +31,27 @@ impl Bench {
         let milliseconds = env::var("BENCH_MS").map_or(300, |text| {
             text.parse().expect("BENCH_MS is a whole number")
         });
-        let loaded = |variable| env::var(variable).ok().map(|path| ByName::loaded(&path));
+        let loaded = |variable| env::var(variable).ok().map(|path| Library::loaded(&path));
         Bench {
             words: env::args().skip(1).collect(),
             budget: Duration::from_millis(milliseconds),
-            now: loaded("BENCH_NOW").unwrap_or_else(ByName::linked),
+            now: loaded("BENCH_NOW").unwrap_or_else(Library::linked),
             before: loaded("BENCH_BEFORE"),
         }
     }
 
     /// Prints the head of the table.
     pub fn head(&self) {
-        let [names, lines] = match self.before {
-            Some(_) => [" before ns | before/now |", "---:|---:|"],
-            None => ["", ""],
-        };
-        println!("| call | Rust ns | proved ns | ratio |{names}");
-        println!("|---|---:|---:|---:|{lines}");
+        match self.before {
+            Some(_) => {
+                println!("| call | Rust ns | before ns | before ratio | now ns | ratio |");
+                println!("|---|---:|---:|---:|---:|---:|");
+            }
+            None => {
+                println!("| call | Rust ns | proved ns | ratio |");
+                println!("|---|---:|---:|---:|");
+            }
+        }
     }
 
     /// Whether a row is timed: with words where its name has one of them, else where it is usual.
@@ -59,26 +63,15 @@ impl Bench {
         }
     }
 
-    /// Asserts that both sides answer the same on each input, times them, and prints the row.
-    /// `laid` is the Rust's answer as the library gives it.
-    pub fn row<I, R, P: PartialEq + Debug>(
-        &self,
+    /// Asserts that all sides answer the same on each input, times them, and prints the row. `laid` is the
+    /// Rust's answer as the library gives it; `proved` is the call by a library, nothing where that one
+    /// lacks the function.
+    pub fn row<'b, I, R, P: PartialEq + Debug, C: Fn(&I) -> P>(
+        &'b self,
         row: Row<I>,
         rust: impl Fn(&I) -> R,
         laid: impl Fn(&R) -> P,
-        proved: impl Fn(&I) -> P,
-    ) {
-        self.row_beside(row, rust, laid, proved, None::<fn(&I) -> P>);
-    }
-
-    /// The same, beside an earlier library where there is one.
-    pub fn row_beside<I, R, P: PartialEq + Debug>(
-        &self,
-        row: Row<I>,
-        rust: impl Fn(&I) -> R,
-        laid: impl Fn(&R) -> P,
-        proved: impl Fn(&I) -> P,
-        before: Option<impl Fn(&I) -> P>,
+        proved: impl Fn(&'b Library) -> Option<C>,
     ) {
         let Row {
             name,
@@ -88,52 +81,51 @@ impl Bench {
         if !self.takes(&name, true) {
             return;
         }
+        let now = proved(&self.now).unwrap_or_else(|| panic!("the library lacks {name}"));
+        let before = self.before.as_ref().and_then(proved);
         for input in inputs {
             let answer = laid(&rust(input));
-            assert_eq!(answer, proved(input), "{name}");
+            assert_eq!(answer, now(input), "{name}");
             if let Some(before) = &before {
                 assert_eq!(answer, before(input), "{name}, before");
             }
         }
         let rust = || all(inputs, &rust);
-        let proved = || all(inputs, &proved);
-        let done = (inputs.len() * parts) as f64;
-        let each = |seconds: f64| seconds * 1e9 / done;
-        match before {
-            None => {
-                let [rust, proved] = self.in_turns([&rust, &proved]).map(each);
-                self.print(&name, rust, proved, None);
-            }
-            Some(before) => {
-                let before = || all(inputs, &before);
-                let [rust, before, proved] = self.in_turns([&rust, &before, &proved]).map(each);
-                self.print(&name, rust, proved, Some(before));
-            }
+        // One closure for both libraries, so that the same code calls them.
+        let by = |proved: C| move || all(inputs, &proved);
+        let (now, before) = (by(now), before.map(by));
+        let mut sides: Vec<&dyn Fn()> = vec![&rust, &now];
+        if let Some(before) = &before {
+            sides.insert(1, before);
         }
+        let done = (inputs.len() * parts) as f64;
+        let seconds = self.in_turns(&sides);
+        self.print(&name, seconds.iter().map(|least| least * 1e9 / done));
     }
 
-    fn print(&self, name: &str, rust: f64, proved: f64, before: Option<f64>) {
-        let ratio = proved / rust;
-        let more = match (self.before, before) {
-            (None, _) => String::new(),
-            (_, None) => " - | - |".to_string(),
-            (_, Some(before)) => format!(" {} | {:.2} |", shown(before), before / proved),
-        };
-        let [rust, proved] = [rust, proved].map(shown);
-        println!("| {name} | {rust} | {proved} | {ratio:.2} |{more}");
+    /// Prints the row of what the Rust took, the earlier library where there is one, and the library.
+    fn print(&self, name: &str, mut nanoseconds: impl ExactSizeIterator<Item = f64>) {
+        let rust = nanoseconds.next().expect("the Rust is timed");
+        let mut row = format!("| {name} | {} |", shown(rust));
+        if self.before.is_some() && nanoseconds.len() == 1 {
+            row += " - | - |";
+        }
+        for proved in nanoseconds {
+            row += &format!(" {} | {:.2} |", shown(proved), proved / rust);
+        }
+        println!("{row}");
     }
 
     /// The least seconds that one run of each side takes.
-    fn in_turns<const SIDES: usize>(&self, sides: [&dyn Fn(); SIDES]) -> [f64; SIDES] {
-        let runs = sides.map(runs_in_a_batch);
-        let mut least = [f64::INFINITY; SIDES];
+    fn in_turns(&self, sides: &[&dyn Fn()]) -> Vec<f64> {
+        let runs: Vec<usize> = sides.iter().map(|side| runs_in_a_batch(side)).collect();
+        let mut least = vec![f64::INFINITY; sides.len()];
         let start = Instant::now();
         let mut rounds = 0;
         while rounds < FEWEST_ROUNDS || start.elapsed() < self.budget {
-            let now: [f64; SIDES] = array::from_fn(|side| {
-                batch(sides[side], runs[side]).as_secs_f64() / runs[side] as f64
-            });
-            least = array::from_fn(|side| least[side].min(now[side]));
+            for ((side, runs), least) in sides.iter().zip(&runs).zip(&mut least) {
+                *least = least.min(batch(side, *runs).as_secs_f64() / *runs as f64);
+            }
             rounds += 1;
         }
         least

@@ -3,7 +3,6 @@
 
 use crate::draws::Draws;
 use crate::layout::Ends;
-use crate::library;
 use crate::timing::{Bench, Row};
 use oracle::wkb::wkb_bounds;
 
@@ -45,7 +44,10 @@ fn time(bench: &Bench, what: &str, geometry: Geometry) {
             let (bbox, types) = answer.as_ref().expect(GOOD);
             (0, Ends::of(bbox), *types)
         },
-        |bytes| library::box_from_wkb(bytes),
+        |library| {
+            let box_from_wkb = library.box_from_wkb()?;
+            Some(move |bytes: &Vec<u8>| box_from_wkb(bytes))
+        },
     );
 }
 
