@@ -18,15 +18,8 @@ enum { LEAVES = 512, NODES = 2 * LEAVES - 1 };
 
 enum { NAMES = 900, RECORDS = 1000, COLLECTIONS = 32 };
 
-/* The most bytes of stack that a call may use. */
-enum {
-    EVALUATE_LIMIT = 143360,
-    FILTER_BBOX_LIMIT = 235520,
-    NAMES_LIMIT = 8192,
-    FIND_NAME_LIMIT = 512,
-    FOLD_LIMIT = 4096,
-    WKB_LIMIT = 24576
-};
+/* The most bytes of stack that a call may use, as johikape.h says. */
+enum { EVALUATE_LIMIT = 136000, FILTER_BBOX_LIMIT = 150000, OTHER_LIMIT = 12000 };
 
 /* ---- what is lent */
 
@@ -260,8 +253,8 @@ static void report_names(void) {
     nodes_count = 0;
     leaf((struct tree){0, JOHIKAPE_INTERSECTS, middle});
     right_answer = JOHIKAPE_MAY_MATCH;
-    report("evaluate_by_name", "900 names that do not ascend", used(evaluate_by_name), NAMES_LIMIT);
-    report("find_name", "900 names", used(find_name), FIND_NAME_LIMIT);
+    report("evaluate_by_name", "900 names that do not ascend", used(evaluate_by_name), OTHER_LIMIT);
+    report("find_name", "900 names", used(find_name), OTHER_LIMIT);
 }
 
 /* ---- records and bytes */
@@ -272,7 +265,7 @@ static void report_fold(void) {
         totals[i][0] = 1;
         flags[i] = 8191;
     }
-    report("fold", "1,000 records", used(fold), FOLD_LIMIT);
+    report("fold", "1,000 records", used(fold), OTHER_LIMIT);
 }
 
 /* A head with a count of 1, low byte first. */
@@ -291,7 +284,7 @@ static void report_wkb(void) {
     write_head(POLYGON);
     bytes[bytes_count] = 1;
     bytes_count += 4 + 16;
-    report("box_from_wkb", "32 nested collections", used(box_from_wkb), WKB_LIMIT);
+    report("box_from_wkb", "32 nested collections", used(box_from_wkb), OTHER_LIMIT);
 }
 
 int main(void) {

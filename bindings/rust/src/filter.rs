@@ -298,9 +298,8 @@ impl CompiledFilter {
     /// number; a number that is not there counts as a record without a box and without types.
     ///
     /// A leaf's number is sought from the first record on, as [`find_name`](crate::find_name) does.
-    /// Whether a number comes twice is found in time that grows with the number of records where
-    /// the low bits of their numbers are spread or dense, and with its square only where many
-    /// numbers have the same low bits.
+    /// Numbers that ascend are seen to differ in one pass. Of others it takes time that grows with the
+    /// number of records, and with its square only where many numbers share a mark of 15 mixed bits.
     ///
     /// # Errors
     ///

@@ -1,10 +1,10 @@
 -- How often nodes are children, and the marks that count it. Assumes nothing.
 use mathlib.Core.Path.{_≡_, refl, sym, subst, ap, _∙_}
-use mathlib.Core.Bool.{Bool, true, false, cond}
+use mathlib.Core.Bool.{Bool, true, false, _&&_, cond}
 use mathlib.Core.List.{List}
 use Prim.Native.Nat.{ℕ, zero, suc, _+_, _-_, _*_, _≤_, _<_}
 use native.Mathlib.Nat.{add-zero, le-antisymm}
-use native.Mathlib.Numerals.{add-one}
+use native.Mathlib.Numerals.{add-one, sub-one}
 use native.Mathlib.Omega.{arith}
 use lib.Dec.{eqb}
 use lib.ListN.{length, getD, set, length-set}
@@ -72,6 +72,26 @@ pub uses-next : (ns ms ms₁ : List ℕ) (n : ℕ) → Counted ms (uses ns n) �
 uses-next ns ms ms₁ n c d = (d .0, λ m h. rw (add-one n) (d .1 m h ∙ ap (λ (k : ℕ). k + usesBy ns n m) (c .1 m h)))
 
 -- ---- of all numbers below n
+pub below-not : (p : ℕ → Bool) (i : ℕ) → 0 < i → p (i - 1) ≡ false → allBelow p i ≡ false
+below-not p zero h e = absurd (omega arith)
+below-not p (suc i) h e = rw (rw (sub-one (suc i)) at e) (and-false (allBelow p i))
+  where
+    and-false : (b : Bool) → (b && false) ≡ false
+    and-false true = refl
+    and-false false = refl
+
+pub below-so : (p : ℕ → Bool) (i : ℕ) → 0 < i → p (i - 1) ≡ true → allBelow p i ≡ allBelow p (i - 1)
+below-so p zero h e = absurd (omega arith)
+below-so p (suc i) h e = rw (sub-one (suc i), rw (sub-one (suc i)) at e) (and-true (allBelow p i))
+  where
+    and-true : (b : Bool) → (b && true) ≡ b
+    and-true true = refl
+    and-true false = refl
+
+pub below-none : (p : ℕ → Bool) (i : ℕ) → i ≤ 0 → allBelow p i ≡ true
+below-none p zero h = refl
+below-none p (suc i) h = absurd (omega arith)
+
 pub below-same : (p q : ℕ → Bool) (n : ℕ) → ((m : ℕ) → m < n → p m ≡ q m) → allBelow p n ≡ allBelow q n
 below-same p q zero h = refl
 below-same p q (suc n) h = rw (h n (omega arith), below-same p q n (λ m k. h m (omega arith)))

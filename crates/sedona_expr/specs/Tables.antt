@@ -2,7 +2,7 @@
 -- record a leaf finds. Each is total: what lies past an end reads as 0, or as no box and no types. Such tables are refused before any answer (Refusals).
 use mathlib.Core.Bool.{Bool, _&&_, _||_, cond}
 use mathlib.Core.List.{List, [], _∷_}
-use Prim.Native.Nat.{ℕ, zero, suc, _+_, _-_, _*_, _/_, _%_}
+use Prim.Native.Nat.{ℕ, zero, suc, _+_, _-_, _*_, _/_, _%_, _≤_}
 use lib.Dec.{eqb, ltb}
 use lib.ListN.{length, getD}
 use lib.Ieee.{Float, nan}
@@ -90,6 +90,10 @@ word ns n k = getD ns (4 * n + k) 0
 
 abbrev pub kind : List ℕ → ℕ → ℕ
 kind ns n = word ns n 0
+
+-- All four words of the node are there.
+abbrev pub HasNode : List ℕ → ℕ → Type 0
+HasNode ns n = 4 * n + 4 ≤ length ns
 
 -- The nodes' words, and the literals.
 pub record Table : Type 0 where

@@ -160,6 +160,7 @@ fn records_refusal(
 
 // A pair that has a child not below it.
 fn pair_refusal(nodes: &[u32], node: u32) -> u32
+    requires { ⌜ tables.HasNode (now nodes) node ⌝ }
     ensures { λ r. ⌜ r ≡ refusals.pairRefusal (now (nodes .entry)) node ⌝ }
 {
     let left = word(nodes, node, 1);
@@ -172,6 +173,7 @@ fn pair_refusal(nodes: &[u32], node: u32) -> u32
 
 // A leaf whose column is not lent.
 fn column_refusal(nodes: &[u32], node: u32, asked: bool, columns: usize) -> u32
+    requires { ⌜ tables.HasNode (now nodes) node ⌝ }
     ensures { λ r. ⌜ r ≡ refusals.columnRefusal (now (nodes .entry)) (refusals.isLent asked columns) node ⌝ }
 {
     if !asked {
@@ -186,6 +188,7 @@ fn column_refusal(nodes: &[u32], node: u32, asked: bool, columns: usize) -> u32
 
 // A leaf whose literal or whose column is not lent.
 fn leaf_refusal(nodes: &[u32], node: u32, literals: usize, asked: bool, columns: usize) -> u32
+    requires { ⌜ tables.HasNode (now nodes) node ⌝ }
     ensures { λ r. ⌜ r ≡ refusals.leafRefusal (now (nodes .entry)) literals (refusals.isLent asked columns) node ⌝ }
 {
     if word(nodes, node, 3) as usize >= literals {
@@ -196,6 +199,7 @@ fn leaf_refusal(nodes: &[u32], node: u32, literals: usize, asked: bool, columns:
 
 // What a node is refused by.
 fn node_refusal(nodes: &[u32], node: u32, literals: usize, asked: bool, columns: usize) -> u32
+    requires { ⌜ tables.HasNode (now nodes) node ⌝ }
     ensures { λ r. ⌜ r ≡ refusals.nodeRefusal (now (nodes .entry)) literals (refusals.isLent asked columns) node ⌝ }
 {
     let kind = word(nodes, node, 0);
@@ -227,7 +231,7 @@ fn mark(marks: &mut [u16; MOST_NODES], node: u32)
 
 // Counts the uses that a node makes of its children.
 fn mark_children(marks: &mut [u16; MOST_NODES], nodes: &[u32], node: u32)
-    requires { ⌜ refusals.AtMost (now marks) 65533 ⌝ }
+    requires { ⌜ refusals.AtMost (now marks) 65533 × tables.HasNode (now nodes) node ⌝ }
     ensures { λ _. ⌜ refusals.Counted (now (marks .exit)) (λ m. getD (now (marks .entry)) m 0 + refusals.usesBy (now (nodes .entry)) node m) ⌝ }
 {
     if is_pair(word(nodes, node, 0)) {
@@ -238,18 +242,20 @@ fn mark_children(marks: &mut [u16; MOST_NODES], nodes: &[u32], node: u32)
     }
 }
 
-// Whether each of the first n marks is 1. It goes through all of them, as `are_good_flags` does.
+// Whether each of the first n marks is 1. (One at a time: a mark that was just stored is read again at
+// once by a load of its own size, and by a wider one only when it has left the store buffer.)
 fn are_once(marks: &[u16; MOST_NODES], n: usize) -> bool
     requires { ⌜ n ≤ 1024 ⌝ }
     ensures { λ r. ⌜ r ≡ refusals.allBelow (λ m. eqb (getD (now (marks .entry)) m 0) 1) n ⌝ }
 {
-    let mut good = true;
-    let mut i = 0;
-    while i < n {
-        good = good & (marks[i] == 1);
-        i += 1;
+    let mut i = n;
+    while i > 0 {
+        i -= 1;
+        if marks[i] != 1 {
+            return false;
+        }
     }
-    good
+    true
 }
 
 // What the nodes are refused by: each upward, then the use count, by marks that are all clear at first.

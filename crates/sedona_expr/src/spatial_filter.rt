@@ -139,6 +139,7 @@ fn may_match(
     names: &[u32],
     node: u32,
 ) -> bool
+    requires { ⌜ tables.HasNode (now nodes) node ⌝ }
     ensures { λ r. ⌜ r ≡ filter.answer (tables.recordOf (tables.lookup named (now (names .entry))) (tables.records (now (records .entry)) (now («record_flags» .entry)) (now («record_types» .entry)) (now («types_known» .entry)))) (tables.treeAt (tables.table (now (nodes .entry)) (now (literals .entry)) (now («literal_flags» .entry))) node) ⌝ }
 {
     let kind = word(nodes, node, 0);
@@ -234,6 +235,7 @@ fn box_for(
     name: u32,
     node: u32,
 ) -> BoundingBox
+    requires { ⌜ tables.HasNode (now nodes) node ⌝ }
     ensures { λ r. ⌜ r ≡ filter.boxFor name (tables.treeAt (tables.table (now (nodes .entry)) (now (literals .entry)) (now («literal_flags» .entry))) node) ⌝ }
 {
     let kind = word(nodes, node, 0);

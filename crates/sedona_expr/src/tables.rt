@@ -41,12 +41,13 @@ pub(crate) const ENDS: usize = 8;
 // Words of a node.
 pub(crate) const NODE: usize = 4;
 
-// Word k of a node; 0 past the end.
+// Word k of a node that is there.
 pub(crate) fn word(nodes: &[u32], node: u32, k: u32) -> u32
+    requires { ⌜ tables.HasNode (now nodes) node × (k ≤ 3) ⌝ }
     ensures { λ r. ⌜ r ≡ tables.word (now (nodes .entry)) node k ⌝ }
 {
     let at = NODE * node as usize + k as usize;
-    if at < nodes.len() { nodes[at] } else { 0 }
+    nodes[at]
 }
 
 // An Intersects or a Covers.
@@ -162,6 +163,7 @@ pub(crate) fn literal_of(
     literal_flags: &[u8],
     node: u32,
 ) -> BoundingBox
+    requires { ⌜ tables.HasNode (now nodes) node ⌝ }
     ensures { λ r. ⌜ r ≡ tables.literal (tables.table (now (nodes .entry)) (now (literals .entry)) (now («literal_flags» .entry))) node ⌝ }
 {
     let b = box_at(literals, literal_flags, word(nodes, node, 3) as usize);
@@ -191,6 +193,7 @@ pub(crate) fn record_of(
     names: &[u32],
     node: u32,
 ) -> ColumnRecord
+    requires { ⌜ tables.HasNode (now nodes) node ⌝ }
     ensures { λ r. ⌜ r ≡ tables.recordOf (tables.lookup named (now (names .entry))) (tables.records (now (records .entry)) (now («record_flags» .entry)) (now («record_types» .entry)) (now («types_known» .entry))) (tables.columnOf (now (nodes .entry)) node) ⌝ }
 {
     let index = word(nodes, node, 1);

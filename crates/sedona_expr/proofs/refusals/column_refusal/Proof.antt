@@ -18,4 +18,4 @@ unfolding isLent columnRefusal
 returns-3 c = rw (c .before .before .if1 .left, ← c .before .word .ensures, lt-ltb _ _ (c .if2 .left))
 
 pub column-refusal-spec : {M : Type 1} → statement M
-column-refusal-spec = tie.close (tie.spec returns (λ c κs. tt) (λ c. search needs) returns-2 returns-3)
+column-refusal-spec = tie.close (tie.spec returns (λ c κs. search needs) (λ c. search needs) returns-2 returns-3)

@@ -14,4 +14,4 @@ unfolding leafRefusal
 returns-2 c = rw (c .column-refusal .ensures, ← c .before .before .word .ensures, lt-ltb _ _ (c .before .if1 .left))
 
 pub leaf-refusal-spec : {M : Type 1} → statement M
-leaf-refusal-spec = tie.close (tie.spec (λ c κs. tt) (λ c. search needs) returns (λ c κs. tt) returns-2)
+leaf-refusal-spec = tie.close (tie.spec (λ c κs. search needs) (λ c. search needs) returns (λ c κs. search needs) returns-2)

@@ -2,18 +2,19 @@
 use mathlib.Core.Bool.{true, false}
 use native.Mathlib.Omega.{arith}
 use Rattle.sedona_expr.proofs.Marks.{marks-rise, pair-counts, none-counts, pair-test}
+use borrow.Author.Needs.{needs}
 use Rattle.sedona_expr.proofs.refusals.mark_children.Statement.{statement}
 use Rattle.sedona_expr.proofs.refusals.mark_children.Tie as tie
 
 mark-requires : tie.Need-mark-requires
 mark-requires c κs =
-    let pre = c .before .before .before .before .before .before .before .pre in
+    let pre = c .before .before .before .before .before .before .before .pre .0 in
     (pre .0, λ m h. omega (arith, pre .1 m h))
 
 mark-requires-2 : tie.Need-mark-requires-2
 mark-requires-2 c κs =
     let args = c .before .before .before .before .before .before .before .before .before .args in
-    let pre = c .before .before .before .before .before .before .before .before .before .pre in
+    let pre = c .before .before .before .before .before .before .before .before .before .pre .0 in
     let word2 = c .before .before .before .before .word2 in
     let mark = c .before .mark in
     marks-rise (args .marks .now) (mark .last .0) (word2 .result) 65533 (pre) (mark .ensures)
@@ -33,11 +34,11 @@ returns c =
 returns-2 : tie.Need-returns-2
 returns-2 c =
     let args = c .before .before .before .before .args in
-    let pre = c .before .before .before .before .pre in
+    let pre = c .before .before .before .before .pre .0 in
     let word = c .before .before .word in
     let is-pair = c .before .is-pair in
     let if1 = c .if1 in
     none-counts (args .nodes .now) (args .marks .now) (args .node) (pre .0) (pair-test (args .nodes .now) (args .node) (word .result) (is-pair .result) false (word .ensures) (is-pair .ensures) (if1 .left))
 
 pub mark-children-spec : {M : Type 1} → statement M
-mark-children-spec = tie.close (tie.spec (λ c κs. tt) (λ c κs. tt) (λ c κs. tt) (λ c κs. tt) mark-requires mark-requires-2 returns returns-2)
+mark-children-spec = tie.close (tie.spec (λ c κs. search needs) (λ c κs. tt) (λ c κs. search needs) (λ c κs. search needs) mark-requires mark-requires-2 returns returns-2)

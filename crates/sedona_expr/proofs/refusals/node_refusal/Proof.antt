@@ -1,6 +1,7 @@
 -- `refusals::node_refusal` meets its contract. Assumes nothing.
 use borrow.Author.Tests.{lt-ltb, le-ltb, eq-eqb, ne-eqb}
 use Rattle.sedona_expr.specs.Refusals.{nodeRefusal}
+use borrow.Author.Needs.{needs}
 use Rattle.sedona_expr.proofs.refusals.node_refusal.Statement.{statement}
 use Rattle.sedona_expr.proofs.refusals.node_refusal.Tie as tie
 
@@ -49,4 +50,4 @@ returns-5 c =
     rw (← word .ensures, le-ltb _ _ (if1 .left), ne-eqb _ _ (if2 .left), ← is-pair .ensures, if3 .left, ← is-leaf .ensures, if4 .left)
 
 pub node-refusal-spec : {M : Type 1} → statement M
-node-refusal-spec = tie.close (tie.spec (λ c κs. tt) returns (λ c κs. tt) returns-2 (λ c κs. tt) (λ c κs. tt) returns-3 (λ c κs. tt) (λ c κs. tt) returns-4 returns-5)
+node-refusal-spec = tie.close (tie.spec (λ c κs. search needs) returns (λ c κs. search needs) returns-2 (λ c κs. tt) (λ c κs. search needs) returns-3 (λ c κs. tt) (λ c κs. search needs) returns-4 returns-5)

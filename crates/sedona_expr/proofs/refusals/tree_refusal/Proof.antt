@@ -39,7 +39,7 @@ mark-children-requires : tie.Need-mark-children-requires Inv-loop μ-loop
 mark-children-requires c κs =
     let start = c .before .before .before .before .before .before .before in
     let loop = c .before .before .before .before .loop in
-    marks-small (loop .marks) (start .args .nodes .now) (loop .node) (omega (arith, start .pre .1, loop .inv .0)) (loop .inv .1 .1)
+    (marks-small (loop .marks) (start .args .nodes .now) (loop .node) (omega (arith, start .pre .1, loop .inv .0)) (loop .inv .1 .1), omega (arith, c .before .before .before .loop-test .taken))
 
 add-node : tie.Need-add-node Inv-loop μ-loop
 add-node c = record { fits = omega (arith, c .before .before .before .before .before .before .before .before .pre .1) }
@@ -86,5 +86,5 @@ returns-4 c =
 pub tree-refusal-spec : {M : Type 1} → statement M
 tree-refusal-spec =
     tie.close
-    (tie.spec Inv-loop μ-loop (λ c κs. tt) returns loop-holds (λ c. search needs) (λ c κs. tt) returns-2 mark-children-requires add-node loop-less loop-again
+    (tie.spec Inv-loop μ-loop (λ c κs. omega (arith, c .if1 .taken)) returns loop-holds (λ c. search needs) (λ c κs. omega (arith, c .loop-test .taken)) returns-2 mark-children-requires add-node loop-less loop-again
     (λ c. omega arith) are-once-requires returns-3 returns-4)

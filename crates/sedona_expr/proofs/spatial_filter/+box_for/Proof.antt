@@ -1,6 +1,7 @@
 -- The proof of the cycle of calls {box_for}: the node number falls. Assumes nothing.
 use mathlib.Core.Path.{_≡_, refl, sym, subst, _∙_}
 use mathlib.Core.Bool.{Bool, true, false, cond}
+use native.Mathlib.Omega.{arith}
 use lib.Dec.{eqb}
 use borrow.Author.Tests.{eqb-true, eq-eqb, ne-eqb}
 use Rattle.sedona_geometry.specs.BoundingBox.{intersection, mergeBox}
@@ -94,14 +95,14 @@ box-for-requires t c κs =
     let pre = c .before .before .before .before .before .before .before .before .before .before .before .before .pre in
     let word3 = c .before .before .before .word3 in
     let if4 = c .before .if4 in
-    (subst (λ (n : ℕ). word3 .result < n) (pre .0) (if4 .left), tt)
+    (subst (λ (n : ℕ). word3 .result < n) (pre .0) (if4 .left), omega (arith, pre .1, if4 .left))
 
 box-for-requires-2 : (t : ℕ) → lts.Need-box-for-requires-2 (claims t) (here t) reads.Post
 box-for-requires-2 t c κs =
     let pre = c .before .before .before .before .before .before .before .before .before .before .before .before .before .pre in
     let word4 = c .before .before .before .word4 in
     let if5 = c .before .if5 in
-    (subst (λ (n : ℕ). word4 .result < n) (pre .0) (if5 .left), tt)
+    (subst (λ (n : ℕ). word4 .result < n) (pre .0) (if5 .left), omega (arith, pre .1, if5 .left))
 
 -- the box of a pair, by those of its children
 pair : (t : ℕ) (c : lts.After-box-for2 (claims t) (here t) reads.Post)
@@ -148,4 +149,4 @@ returns-8 : (t : ℕ) → lts.Need-returns-8 (claims t) (here t) reads.Post
 returns-8 t c = c .full4 .ensures ∙ sym (other t (c .before .before) ∙ rw (ne-eqb _ 5 (c .before .if7 .left)))
 
 pub +box-for-spec : {M : Type 1} → statement M
-+box-for-spec = close μ (λ t. lts.spec (claims t) (here t) reads.Post (λ c κs. tt) (λ c κs. tt) (λ c κs. tt) (λ c κs. tt) (returns t) (λ c κs. tt) (returns-2 t) (λ c κs. tt) (λ c κs. tt) (λ c κs. tt) (λ c κs. tt) (returns-3 t) (λ c κs. tt) (returns-4 t) (box-for-requires t) (box-for-requires-2 t) (λ c κs. tt) (returns-5 t) (λ c κs. tt) (returns-6 t) (λ c κs. tt) (returns-7 t) (λ c κs. tt) (returns-8 t))
++box-for-spec = close μ (λ t. lts.spec (claims t) (here t) reads.Post (λ c κs. (c .before .before .before .pre .1, omega arith)) (λ c κs. tt) (λ c κs. (c .before .before .before .before .before .before .pre .1, omega arith)) (λ c κs. c .before .before .before .before .before .before .before .before .pre .1) (returns t) (λ c κs. tt) (returns-2 t) (λ c κs. tt) (λ c κs. (c .before .before .before .before .before .before .before .before .pre .1, omega arith)) (λ c κs. (c .before .before .before .before .before .before .before .before .before .pre .1, omega arith)) (λ c κs. tt) (returns-3 t) (λ c κs. tt) (returns-4 t) (box-for-requires t) (box-for-requires-2 t) (λ c κs. tt) (returns-5 t) (λ c κs. tt) (returns-6 t) (λ c κs. tt) (returns-7 t) (λ c κs. tt) (returns-8 t))

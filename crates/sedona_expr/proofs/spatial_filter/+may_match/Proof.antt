@@ -1,6 +1,7 @@
 -- The proof of the cycle of calls {may_match}: the node number falls. Assumes nothing.
 use mathlib.Core.Path.{_≡_, refl, sym, subst, _∙_}
 use mathlib.Core.Bool.{Bool, true, false}
+use native.Mathlib.Omega.{arith}
 use lib.Dec.{eqb}
 use borrow.Author.Tests.{ne-eqb}
 use Rattle.sedona_expr.specs.SpatialFilter.{Filter, answer}
@@ -79,12 +80,12 @@ returns-4 t c =
 may-match-requires : (t : ℕ) → lts.Need-may-match-requires (claims t) (here t) reads.Post
 may-match-requires t c κs =
     let pre = c .before .before .before .before .before .before .before .before .before .before .before .before .before .before .before .before .before .before .pre in
-    (subst (λ (n : ℕ). c .before .before .before .word2 .result < n) (pre .0) (c .before .if4 .left), tt)
+    (subst (λ (n : ℕ). c .before .before .before .word2 .result < n) (pre .0) (c .before .if4 .left), omega (arith, pre .1, c .before .if4 .left))
 
 may-match-requires-2 : (t : ℕ) → lts.Need-may-match-requires-2 (claims t) (here t) reads.Post
 may-match-requires-2 t c κs =
     let pre = c .before .before .before .before .before .before .before .before .before .before .before .before .before .before .before .before .before .before .before .pre in
-    (subst (λ (n : ℕ). c .before .before .before .word3 .result < n) (pre .0) (c .before .if5 .left), tt)
+    (subst (λ (n : ℕ). c .before .before .before .word3 .result < n) (pre .0) (c .before .if5 .left), omega (arith, pre .1, c .before .if5 .left))
 
 returns-5 : (t : ℕ) → lts.Need-returns-5 (claims t) (here t) reads.Post
 returns-5 t c =
@@ -102,4 +103,4 @@ returns-6 t c =
     sym ((rw (ne-eqb (w .word .result) 2 (c .before .before .if2 .left)) at other) ∙ answer-other _ (eqb (w .word .result) 5))
 
 pub +may-match-spec : {M : Type 1} → statement M
-+may-match-spec = close μ (λ t. lts.spec (claims t) (here t) reads.Post (λ c κs. tt) (λ c κs. tt) (λ c κs. tt) (λ c κs. tt) (λ c κs. tt) (returns t) (λ c κs. tt) (λ c κs. tt) (returns-2 t) (λ c κs. tt) (λ c κs. tt) (λ c κs. tt) (returns-3 t) (returns-4 t) (may-match-requires t) (may-match-requires-2 t) (λ c κs. tt) (returns-5 t) (returns-6 t))
++may-match-spec = close μ (λ t. lts.spec (claims t) (here t) reads.Post (λ c κs. (c .before .before .before .before .before .before .before .before .pre .1, omega arith)) (λ c κs. tt) (λ c κs. c .before .before .before .before .before .before .before .before .before .before .before .pre .1) (λ c κs. c .before .before .before .before .before .before .before .before .before .before .before .before .pre .1) (λ c κs. tt) (returns t) (λ c κs. c .before .before .before .before .before .before .before .before .before .before .before .before .pre .1) (λ c κs. tt) (returns-2 t) (λ c κs. tt) (λ c κs. (c .before .before .before .before .before .before .before .before .before .before .before .before .before .before .pre .1, omega arith)) (λ c κs. (c .before .before .before .before .before .before .before .before .before .before .before .before .before .before .before .pre .1, omega arith)) (returns-3 t) (returns-4 t) (may-match-requires t) (may-match-requires-2 t) (λ c κs. tt) (returns-5 t) (returns-6 t))

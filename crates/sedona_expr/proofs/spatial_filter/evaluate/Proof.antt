@@ -25,6 +25,9 @@ cast-root c =
     let if1 = c .if1 in
     record { fits = omega (arith, refusal-pass (lookup (args .named) (args .names .now)) (table (args .nodes .now) (args .literals .now) (args .literal-flags .now)) (records (args .records .now) (args .record-flags .now) (args .record-types .now) (args .types-known .now)) (refusal .result) (refusal .ensures) (if1 .left) .1) }
 
+may-match-requires : tie.Need-may-match-requires
+may-match-requires c κs = omega (arith, sub-root c)
+
 returns-2 : tie.Need-returns-2
 unfolding outcome
 returns-2 c =
@@ -44,4 +47,4 @@ returns-3 c =
     rw (← refusal .ensures, eq-eqb (refusal .result) 0 (if1 .left), ← may-match .ensures, if2 .left)
 
 pub evaluate-spec : {M : Type 1} → statement M
-evaluate-spec = tie.close (tie.spec (λ c κs. tt) returns sub-root cast-root (λ c κs. tt) returns-2 returns-3)
+evaluate-spec = tie.close (tie.spec (λ c κs. tt) returns sub-root cast-root may-match-requires returns-2 returns-3)

@@ -25,9 +25,12 @@ cast-root c =
     let if1 = c .if1 in
     record { fits = omega (arith, box-refusal-pass (table (args .nodes .now) (args .literals .now) (args .literal-flags .now)) (box-refusal .result) (box-refusal .ensures) (if1 .left) .1) }
 
+box-for-requires : tie.Need-box-for-requires
+box-for-requires c κs = omega (arith, sub-root c)
+
 returns-2 : tie.Need-returns-2
 unfolding numbered
 returns-2 c = rw (← c .before .before .before .box-refusal .ensures, eq-eqb (c .before .before .before .box-refusal .result) 0 (c .before .before .if1 .left), c .accepted .ensures, c .before .box-for .ensures)
 
 pub filter-bbox-spec : {M : Type 1} → statement M
-filter-bbox-spec = tie.close (tie.spec (λ c κs. tt) (λ c κs. tt) returns sub-root cast-root (λ c κs. tt) (λ c κs. tt) returns-2)
+filter-bbox-spec = tie.close (tie.spec (λ c κs. tt) (λ c κs. tt) returns sub-root cast-root box-for-requires (λ c κs. tt) returns-2)
