@@ -1,11 +1,15 @@
 -- `refusals::tree_refusal` meets its contract: nothing refuses the nodes so far, and the marks count their uses. Assumes nothing.
 use mathlib.Core.Path.{_≡_, refl, subst, _∙_}
+use mathlib.Core.Bool.{Bool, not}
+use mathlib.Core.List.{List}
 use Prim.Native.Nat.{ℕ, _≤_, _-_}
 use native.Mathlib.Nat.{le-antisymm}
 use native.Mathlib.Omega.{arith}
-use lib.ListN.{getD-replicate, length-replicate}
+use lib.Dec.{eqb}
+use lib.ListN.{length, getD, getD-replicate, length-replicate}
+use Rattle.sedona_expr.specs.Error as error
 use Rattle.sedona_expr.specs.Tables.{count}
-use Rattle.sedona_expr.specs.Refusals.{isLent, nodesRefusal, Counted, uses, usesRefusal, treeRefusal}
+use Rattle.sedona_expr.specs.Refusals.{when, isLent, nodesRefusal, Counted, uses, allBelow, usesRefusal, treeRefusal}
 use Rattle.sedona_expr.proofs.Passing.{or-else-stop, or-else-next, nodes-next, nodes-stop, one-node}
 use Rattle.sedona_expr.proofs.Marks.{marks-small, uses-next, once}
 use borrow.Author.Needs.{needs}
@@ -61,27 +65,23 @@ loop-again c =
 are-once-requires : tie.Need-are-once-requires Inv-loop μ-loop
 are-once-requires c κs = omega (arith, c .before .before .before .before .before .pre .1)
 
-returns-3 : tie.Need-returns-3 Inv-loop μ-loop
+-- where nothing refuses the nodes, the marks tell
+marks-tell : (ns ms : List ℕ) (literals : ℕ) (lent : ℕ → Bool) (n : ℕ) → n ≤ count ns → count ns ≤ n → length ns ≤ 4096 → nodesRefusal ns literals lent n ≡ 0
+    → Counted ms (uses ns n) → when (not (allBelow (λ m. eqb (getD ms m 0) 1) (count ns - 1))) error.badTree ≡ treeRefusal ns literals lent
 unfolding treeRefusal usesRefusal
+marks-tell ns ms literals lent n h k l z c = or-else-next refl (subst (λ (m : ℕ). nodesRefusal ns literals lent m ≡ 0) (le-antisymm h k) z) (rw (once ns ms n h k l c))
+
+returns-3 : tie.Need-returns-3 Inv-loop μ-loop
 returns-3 c =
     let start = c .before .before .before .before .before .before .before in
-    let nodes = start .args .nodes .now in
     let loop = c .before .before .before .before .loop in
-    let loop-test = c .before .before .before .loop-test in
-    let all : loop .node ≡ count nodes = le-antisymm (loop .inv .0) (loop-test .left) in
-    or-else-next refl (subst (λ (n : ℕ). nodesRefusal nodes (start .args .literals) (isLent (start .args .asked) (start .args .columns)) n ≡ 0) all (loop .inv .1 .0))
-    (rw (← once nodes (loop .marks) (loop .node) (loop .inv .0) (loop-test .left) (start .pre .1) (loop .inv .1 .1), ← c .before .are-once .ensures, c .if3 .taken))
+    rw (← c .before .are-once .ensures, c .if3 .taken) at (marks-tell (start .args .nodes .now) (loop .marks) (start .args .literals) (isLent (start .args .asked) (start .args .columns)) (loop .node) (loop .inv .0) (c .before .before .before .loop-test .left) (start .pre .1) (loop .inv .1 .0) (loop .inv .1 .1))
 
 returns-4 : tie.Need-returns-4 Inv-loop μ-loop
-unfolding treeRefusal usesRefusal
 returns-4 c =
     let start = c .before .before .before .before .before .before .before in
-    let nodes = start .args .nodes .now in
     let loop = c .before .before .before .before .loop in
-    let loop-test = c .before .before .before .loop-test in
-    let all : loop .node ≡ count nodes = le-antisymm (loop .inv .0) (loop-test .left) in
-    or-else-next refl (subst (λ (n : ℕ). nodesRefusal nodes (start .args .literals) (isLent (start .args .asked) (start .args .columns)) n ≡ 0) all (loop .inv .1 .0))
-    (rw (← once nodes (loop .marks) (loop .node) (loop .inv .0) (loop-test .left) (start .pre .1) (loop .inv .1 .1), ← c .before .are-once .ensures, c .if3 .left))
+    rw (← c .before .are-once .ensures, c .if3 .left) at (marks-tell (start .args .nodes .now) (loop .marks) (start .args .literals) (isLent (start .args .asked) (start .args .columns)) (loop .node) (loop .inv .0) (c .before .before .before .loop-test .left) (start .pre .1) (loop .inv .1 .0) (loop .inv .1 .1))
 
 pub tree-refusal-spec : {M : Type 1} → statement M
 tree-refusal-spec =
