@@ -36,16 +36,13 @@ pub uses-le : (ns : List ℕ) (n m : ℕ) → uses ns n m ≤ 2 * n
 uses-le ns zero m = omega arith
 uses-le ns (suc n) m = omega (arith, uses-le ns n m, uses-by-le ns n m)
 
--- one more mark at a place, and none past the marks
+-- one more mark at a place
 pub mark-counts : (ms : List ℕ) (n : ℕ) → length ms ≡ 1024 → n < 1024 → Counted (set ms n (getD ms n 0 + 1)) (λ m. getD ms m 0 + one (eqb n m))
 mark-counts ms n l h = (length-set ms n (getD ms n 0 + 1) ∙ l, λ m k. go m (eqb n m) refl)
   where
     go : (m : ℕ) (b : Bool) → eqb n m ≡ b → getD (set ms n (getD ms n 0 + 1)) m 0 ≡ getD ms m 0 + one b
     go m true e = subst (λ (i : ℕ). getD (set ms n (getD ms n 0 + 1)) i 0 ≡ getD ms i 0 + 1) (eqb-true n m e) (getD-set-same ms n (getD ms n 0 + 1) 0 (omega (arith, l, h)))
     go m false e = getD-set-other ms n m (getD ms n 0 + 1) 0 (λ d. eqb-false n m e (sym d)) ∙ sym (add-zero (getD ms m 0))
-
-pub mark-past : (ms : List ℕ) (n : ℕ) → length ms ≡ 1024 → 1024 ≤ n → Counted ms (λ m. getD ms m 0 + one (eqb n m))
-mark-past ms n l h = (l, λ m k. rw (ne-eqb n m (λ e. absurd (omega arith))) (sym (add-zero (getD ms m 0))))
 
 -- marks stay small
 pub marks-rise : (ms ns : List ℕ) (n k : ℕ) → AtMost ms k → Counted ns (λ m. getD ms m 0 + one (eqb n m)) → AtMost ns (k + 1)

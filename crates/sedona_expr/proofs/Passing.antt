@@ -1,17 +1,18 @@
 -- What the refusals let pass: as many words as make 1 node to 1,024, eight doubles a flag; and `filter_bbox` refuses no table that a filter call takes.
 -- Assumes nothing.
 use mathlib.Core.Path.{_≡_, refl, sym, subst, _∙_}
-use mathlib.Core.Bool.{Bool, true, false, not, _||_, cond}
+use mathlib.Core.Bool.{Bool, true, false, not, _&&_, _||_, cond}
 use mathlib.Core.List.{List}
 use Prim.Native.Nat.{ℕ, zero, suc, _+_, _*_, _/_, _%_, _≤_, _<_}
 use native.Mathlib.Numerals.{add-one}
 use native.Mathlib.Omega.{arith}
 use lib.Dec.{eqb, ltb}
 use lib.ListN.{length}
-use borrow.Author.Tests.{eqb-true, eqb-false, eq-eqb, ne-eqb, ltb-false}
+use borrow.Author.Tests.{eqb-true, eqb-false, eq-eqb, ne-eqb, ltb-true, ltb-false}
+use Rattle.sedona_geometry.proofs.Order.{fails}
 use Rattle.sedona_expr.specs.Error as error
-use Rattle.sedona_expr.specs.Tables.{Records, Table, Lookup, lookup, kind, word, count, isPair, isLeaf}
-use Rattle.sedona_expr.specs.Refusals.{orElse, when, wordsRefusal, asksIndex, isLent, columnRefusal, leafRefusal, nodeRefusal, nodesRefusal, usesRefusal, tableRefusal, treeRefusal, recordsRefusal, refusal, boxRefusal}
+use Rattle.sedona_expr.specs.Tables.{Records, Table, Lookup, lookup, kind, word, count, isPair, isLeaf, areBelow}
+use Rattle.sedona_expr.specs.Refusals.{orElse, when, wordsRefusal, asksIndex, isLent, columnRefusal, leafRefusal, pairRefusal, HaveMarks, nodeRefusal, nodesRefusal, usesRefusal, tableRefusal, treeRefusal, recordsRefusal, refusal, boxRefusal}
 
 -- ---- eight doubles a flag, by quotient and remainder
 pub not-in-eights : (d f : ℕ) → (d % 8 ≡ 0 → ⊥) → eqb d (8 * f) ≡ false
@@ -67,6 +68,23 @@ module _ (ns : List ℕ) (literals : ℕ) (lent : ℕ → Bool) (n : ℕ) {k : �
       go false q f =
           let u : (n ≡ c → ⊥) = eqb-false n c q in
           or-else-stop (nodeRefusal ns literals lent c) (f (omega arith) d) d
+
+-- the children of a node that passes have marks
+pub children-marked : (ns : List ℕ) (literals : ℕ) (lent : ℕ → Bool) (n : ℕ) → n ≤ 1024 → nodeRefusal ns literals lent n ≡ 0 → HaveMarks ns n
+unfolding nodeRefusal pairRefusal areBelow
+children-marked ns literals lent n h z p =
+    let b = below (ltb (word ns n 1) n) (ltb (word ns n 2) n) (pair (ltb 6 (kind ns n)) (eqb (kind ns n) 2) refl (rw p at z)) in
+    (omega (arith, ltb-true (word ns n 1) n (b .0)), omega (arith, ltb-true (word ns n 2) n (b .1)))
+  where
+    pair : (a b : Bool) → eqb (kind ns n) 2 ≡ b → cond a error.unknownKind (cond b (columnRefusal ns lent n) (pairRefusal ns n)) ≡ 0 → pairRefusal ns n ≡ 0
+    pair true b e q = absurd (omega arith)
+    pair false true e q = absurd (fails (sym (rw (eqb-true (kind ns n) 2 e) at p)) tt)
+    pair false false e q = q
+
+    below : (a b : Bool) → when (not (a && b)) error.badTree ≡ 0 → (a ≡ true) × (b ≡ true)
+    below true true q = (refl, refl)
+    below true false q = absurd (omega arith)
+    below false b q = absurd (omega arith)
 
 -- one node has no child to count
 pub one-node : (ns : List ℕ) (literals : ℕ) (lent : ℕ → Bool) → count ns ≡ 1 → nodeRefusal ns literals lent 0 ≡ treeRefusal ns literals lent

@@ -113,6 +113,10 @@ Counted ms counts = (length ms ≡ 1024) × ((m : ℕ) → m < 1024 → getD ms 
 abbrev pub AtMost : List ℕ → ℕ → Type 0
 AtMost ms n = (length ms ≡ 1024) × ((m : ℕ) → m < 1024 → getD ms m 0 ≤ n)
 
+-- The children of an And or Or are among the 1,024.
+abbrev pub HaveMarks : List ℕ → ℕ → Type 0
+HaveMarks ns n = isPair (kind ns n) ≡ true → (word ns n 1 < 1024) × (word ns n 2 < 1024)
+
 -- Of all numbers below n.
 abbrev pub allBelow : (ℕ → Bool) → ℕ → Bool
 allBelow p zero = true

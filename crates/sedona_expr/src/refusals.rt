@@ -1,7 +1,7 @@
 // What a filter call is refused by: each function answers a number of error.rt, or 0. `refusal` and
 // `box_refusal`, at the end, have their order. All nodes are checked before any is answered.
 ghost use mathlib.Core.Path.{_≡_};
-ghost use Prim.Native.Nat.{_≤_, _+_};
+ghost use Prim.Native.Nat.{_≤_, _<_, _+_};
 ghost use lib.Dec.{eqb, ltb};
 ghost use lib.ListN.{length, getD};
 ghost use Rattle.sedona_expr.specs.Tables as tables;
@@ -220,18 +220,16 @@ fn node_refusal(nodes: &[u32], node: u32, literals: usize, asked: bool, columns:
 
 // Counts a use of a node as a child.
 fn mark(marks: &mut [u16; MOST_NODES], node: u32)
-    requires { ⌜ refusals.AtMost (now marks) 65534 ⌝ }
+    requires { ⌜ refusals.AtMost (now marks) 65534 × (node < 1024) ⌝ }
     ensures { λ _. ⌜ refusals.Counted (now (marks .exit)) (λ m. getD (now (marks .entry)) m 0 + refusals.one (eqb node m)) ⌝ }
 {
     let at = node as usize;
-    if at < MOST_NODES {
-        marks[at] += 1;
-    }
+    marks[at] += 1;
 }
 
 // Counts the uses that a node makes of its children.
 fn mark_children(marks: &mut [u16; MOST_NODES], nodes: &[u32], node: u32)
-    requires { ⌜ refusals.AtMost (now marks) 65533 × tables.HasNode (now nodes) node ⌝ }
+    requires { ⌜ refusals.AtMost (now marks) 65533 × (tables.HasNode (now nodes) node × refusals.HaveMarks (now nodes) node) ⌝ }
     ensures { λ _. ⌜ refusals.Counted (now (marks .exit)) (λ m. getD (now (marks .entry)) m 0 + refusals.usesBy (now (nodes .entry)) node m) ⌝ }
 {
     if is_pair(word(nodes, node, 0)) {

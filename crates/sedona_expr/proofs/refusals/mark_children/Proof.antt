@@ -8,16 +8,20 @@ use Rattle.sedona_expr.proofs.refusals.mark_children.Tie as tie
 
 mark-requires : tie.Need-mark-requires
 mark-requires c κs =
-    let pre = c .before .before .before .before .before .before .before .pre .0 in
-    (pre .0, λ m h. omega (arith, pre .1 m h))
+    let start = c .before .before .before .before .before .before .before in
+    let word = c .before .before .before .before .before .word in
+    let is-pair = c .before .before .before .before .is-pair in
+    let pair = pair-test (start .args .nodes .now) (start .args .node) (word .result) (is-pair .result) true (word .ensures) (is-pair .ensures) (c .before .before .before .if1 .taken) in
+    ((start .pre .0 .0, λ m h. omega (arith, start .pre .0 .1 m h)), rw (c .before .before .word2 .ensures) (start .pre .1 .1 pair .0))
 
 mark-requires-2 : tie.Need-mark-requires-2
 mark-requires-2 c κs =
-    let args = c .before .before .before .before .before .before .before .before .before .args in
-    let pre = c .before .before .before .before .before .before .before .before .before .pre .0 in
-    let word2 = c .before .before .before .before .word2 in
+    let start = c .before .before .before .before .before .before .before .before .before in
+    let word = c .before .before .before .before .before .before .before .word in
+    let is-pair = c .before .before .before .before .before .before .is-pair in
+    let pair = pair-test (start .args .nodes .now) (start .args .node) (word .result) (is-pair .result) true (word .ensures) (is-pair .ensures) (c .before .before .before .before .before .if1 .taken) in
     let mark = c .before .mark in
-    marks-rise (args .marks .now) (mark .last .0) (word2 .result) 65533 (pre) (mark .ensures)
+    (marks-rise (start .args .marks .now) (mark .last .0) (c .before .before .before .before .word2 .result) 65533 (start .pre .0) (mark .ensures), rw (c .before .before .before .word3 .ensures) (start .pre .1 .1 pair .1))
 
 returns : tie.Need-returns
 returns c =

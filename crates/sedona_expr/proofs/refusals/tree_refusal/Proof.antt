@@ -1,5 +1,5 @@
 -- `refusals::tree_refusal` meets its contract: nothing refuses the nodes so far, and the marks count their uses. Assumes nothing.
-use mathlib.Core.Path.{_≡_, refl, subst, _∙_}
+use mathlib.Core.Path.{_≡_, refl, sym, subst, _∙_}
 use mathlib.Core.Bool.{Bool, not}
 use mathlib.Core.List.{List}
 use Prim.Native.Nat.{ℕ, _≤_, _-_}
@@ -10,7 +10,7 @@ use lib.ListN.{length, getD, getD-replicate, length-replicate}
 use Rattle.sedona_expr.specs.Error as error
 use Rattle.sedona_expr.specs.Tables.{count}
 use Rattle.sedona_expr.specs.Refusals.{when, isLent, nodesRefusal, Counted, uses, allBelow, usesRefusal, treeRefusal}
-use Rattle.sedona_expr.proofs.Passing.{or-else-stop, or-else-next, nodes-next, nodes-stop, one-node}
+use Rattle.sedona_expr.proofs.Passing.{or-else-stop, or-else-next, nodes-next, nodes-stop, one-node, children-marked}
 use Rattle.sedona_expr.proofs.Marks.{marks-small, uses-next, once}
 use borrow.Author.Needs.{needs}
 use Rattle.sedona_expr.proofs.refusals.tree_refusal.Statement.{statement}
@@ -42,8 +42,10 @@ returns-2 c =
 mark-children-requires : tie.Need-mark-children-requires Inv-loop μ-loop
 mark-children-requires c κs =
     let start = c .before .before .before .before .before .before .before in
-    let loop = c .before .before .before .before .loop in
-    (marks-small (loop .marks) (start .args .nodes .now) (loop .node) (omega (arith, start .pre .1, loop .inv .0)) (loop .inv .1 .1), omega (arith, c .before .before .before .loop-test .taken))
+    let loop = c .before .before .before .before .loop in (
+      marks-small (loop .marks) (start .args .nodes .now) (loop .node) (omega (arith, start .pre .1, loop .inv .0)) (loop .inv .1 .1),
+      (omega (arith, c .before .before .before .loop-test .taken), children-marked (start .args .nodes .now) (start .args .literals) (isLent (start .args .asked) (start .args .columns)) (loop .node) (omega (arith, start .pre .1, loop .inv .0)) (sym (c .before .before .node-refusal2 .ensures) ∙ c .before .if2 .left)),
+    )
 
 add-node : tie.Need-add-node Inv-loop μ-loop
 add-node c = record { fits = omega (arith, c .before .before .before .before .before .before .before .before .pre .1) }
