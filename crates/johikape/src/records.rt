@@ -2,7 +2,7 @@
 // 1, 2, 4 of the box, 8 types, 16 to 1,024 the totals, 2,048 and 4,096 the lengths.
 ghost use mathlib.Core.Path.{_≡_};
 ghost use mathlib.Core.List.{_∷_, []};
-ghost use Prim.Native.Nat.{_≤_, _<_, _+_, _*_, _-_};
+ghost use Prim.Native.Nat.{_≤_, _<_, _+_, _*_};
 ghost use lib.IntN.{pos};
 ghost use lib.ListN.{length, drop, getD};
 ghost use lib.Ieee.{nan};

@@ -9,7 +9,7 @@ use native.Mathlib.Omega.{arith}
 use lib.Dec.{eqb}
 use lib.ListN.{length, getD, set, length-set}
 use lib.Seq.{getD-set-same, getD-set-other}
-use borrow.Author.Tests.{eqb-true, eqb-false, ne-eqb}
+use borrow.Author.Tests.{eqb-true, eqb-false}
 use Rattle.sedona_expr.specs.Tables.{word, kind, count, isPair}
 use Rattle.sedona_expr.specs.Refusals.{one, usesBy, uses, Counted, AtMost, allBelow}
 

@@ -1,12 +1,10 @@
 -- `records::fold_whole` meets its contract: the records so far are folded. Assumes nothing.
-use mathlib.Core.Path.{refl}
 use Prim.Native.Nat.{_-_}
 use Rattle.sedona_expr.specs.Statistics.{start}
 use native.Mathlib.Omega.{arith}
 use lib.ListN.{length}
 use Rattle.johikape.specs.Records.{lists, FoldedTo}
 use Rattle.johikape.proofs.Lists.{place-fits, folded-none, folded-next}
-use borrow.Author.Needs.{needs}
 use Rattle.johikape.proofs.records.fold_whole.Statement.{statement}
 use Rattle.johikape.proofs.records.fold_whole.Tie as tie
 

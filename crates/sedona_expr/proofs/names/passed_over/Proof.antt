@@ -6,7 +6,6 @@ use lib.ListN.{length, drop}
 use borrow.Author.Tests.{not-false}
 use Rattle.sedona_expr.specs.Names.{findName, behind}
 use Rattle.sedona_expr.proofs.Searches.{find-all, find-past}
-use borrow.Author.Needs.{needs}
 use Rattle.sedona_expr.proofs.names.passed_over.Statement.{statement}
 use Rattle.sedona_expr.proofs.names.passed_over.Tie as tie
 

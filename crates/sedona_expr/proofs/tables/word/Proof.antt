@@ -1,5 +1,4 @@
 -- `tables::word` meets its contract. Assumes nothing.
-use native.Mathlib.Omega.{arith}
 use borrow.Author.Needs.{needs}
 use Rattle.sedona_expr.proofs.tables.word.Statement.{statement}
 use Rattle.sedona_expr.proofs.tables.word.Tie as tie

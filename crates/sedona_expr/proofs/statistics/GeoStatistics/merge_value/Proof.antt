@@ -1,5 +1,4 @@
 -- `GeoStatistics::merge_value` meets its contract. Assumes nothing.
-use mathlib.Core.Path.{refl}
 use Rattle.sedona_expr.specs.Statistics.{mergeValue}
 use Rattle.sedona_expr.proofs.Theorems.{sums-stay}
 use Rattle.sedona_expr.proofs.statistics.GeoStatistics.merge_value.Statement.{statement}
