@@ -9,9 +9,9 @@
  * and count say; behind it every value is allowed, and a bad one gets its number (below). Where a
  * function answers the number of a refusal, it has written nothing.
  *
- * STACK: a filter call takes at most 136 KB, johikape_filter_bbox 150 KB. That is of 1,023 nodes, each
- * And or Or with a leaf and the next And or Or; a balanced tree of as many takes 7 KB. Any other call
- * takes at most 12 KB.
+ * STACK, measured on the library as bindings/build compiles it, and not proved: a filter call takes at
+ * most 136 KB, johikape_filter_bbox 150 KB. That is of 1,023 nodes, each And or Or with a leaf and the
+ * next And or Or; a balanced tree of as many takes 7 KB. The other calls measured take at most 12 KB.
  *
  * A BOX is eight doubles, low and high of x, y, z and m, and flags: JOHIKAPE_BOX, with JOHIKAPE_Z
  * and JOHIKAPE_M where z and m are known. Ends of what is not known are not read, and are written as

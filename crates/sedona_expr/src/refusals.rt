@@ -240,8 +240,8 @@ fn mark_children(marks: &mut [u16; MOST_NODES], nodes: &[u32], node: u32)
     }
 }
 
-// Whether each of the first n marks is 1. (One at a time: a mark that was just stored is read again at
-// once by a load of its own size, and by a wider one only when it has left the store buffer.)
+// Whether each of the first n marks is 1. (With a way out: without one, as in `are_good_flags`, a filter of
+// few nodes took longer.)
 fn are_once(marks: &[u16; MOST_NODES], n: usize) -> bool
     requires { ⌜ n ≤ 1024 ⌝ }
     ensures { λ r. ⌜ r ≡ refusals.allBelow (λ m. eqb (getD (now (marks .entry)) m 0) 1) n ⌝ }
