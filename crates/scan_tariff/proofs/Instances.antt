@@ -10,7 +10,6 @@ use Rattle.sedona_expr.specs.Refusals.{orElse}
 use Rattle.sedona_expr.specs.declared.statistics.Total as Total
 use Rattle.sedona_expr.specs.declared.statistics.Total.{Total}
 use Rattle.sedona_expr.specs.declared.statistics.GeoStatistics.{GeoStatistics}
-use Rattle.scan_tariff.specs.Error as error
 use Rattle.scan_tariff.specs.Tariff.{gib, exact, nearestCent, isBilled, totalRefusal, sizesRefusal, ratesRefusal, refused, fee, feeOfTotal, feeOfRecord, feeOfSizes, difference}
 use Rattle.scan_tariff.specs.declared.tariff.Rates.{Rates}
 use Rattle.scan_tariff.specs.declared.tariff.Fee.{Fee}
@@ -69,27 +68,41 @@ pub edges : (feeOfSizes (known (64 * gib - 53688) ∷ []) (at 10000 0 0) ≡ cos
 unfolding exact nearestCent isBilled sizesRefusal ratesRefusal orElse fee feeOfSizes
 edges = (refl, refl, refl, refl, refl, refl, refl, refl, refl, refl, refl)
 
--- 2^40 bytes, and one more; rates of 10,000, and of one more; no sizes
+-- 2^40 bytes, and one more, which is 18; rates of 10,000, and of one more, which is 19; no sizes
 pub limits : (feeOfSizes (known (2 ^ 40) ∷ []) (at 10000 10000 10000) ≡ costs 10240000)
-    × (feeOfSizes (known (2 ^ 40 + 1) ∷ []) (at 1 2 3) ≡ refused error.badSize)
-    × (feeOfSizes (known 0 ∷ []) (at 10001 2 3) ≡ refused error.badRate)
-    × (feeOfSizes (known 0 ∷ []) (at 1 10001 3) ≡ refused error.badRate)
-    × (feeOfSizes (known 0 ∷ []) (at 1 2 10001) ≡ refused error.badRate)
+    × (feeOfSizes (known (2 ^ 40 + 1) ∷ []) (at 1 2 3) ≡ refused 18)
+    × (feeOfSizes (known 0 ∷ []) (at 10001 2 3) ≡ refused 19)
+    × (feeOfSizes (known 0 ∷ []) (at 1 10001 3) ≡ refused 19)
+    × (feeOfSizes (known 0 ∷ []) (at 1 2 10001) ≡ refused 19)
     × (feeOfSizes [] (at 1 2 3) ≡ costs 0)
 unfolding exact nearestCent isBilled sizesRefusal ratesRefusal orElse fee feeOfSizes
 limits = (refl, refl, refl, refl, refl, refl)
 
--- missing, negative, mended by another; a sum over 2^40 of sizes that are not; each before a rate that is too high
-pub bad-sizes : (feeOfSizes (Total.Missing ∷ []) (at 1 2 3) ≡ refused error.badSize)
-    × (feeOfSizes (Total.Known (negsuc 0) ∷ []) (at 1 2 3) ≡ refused error.badSize)
-    × (feeOfSizes (Total.Known (negsuc 0) ∷ known 1 ∷ []) (at 1 2 3) ≡ refused error.badSize)
-    × (feeOfSizes (known 5 ∷ Total.Missing ∷ []) (at 1 2 3) ≡ refused error.badSize)
-    × (feeOfSizes (known (2 ^ 40) ∷ known 1 ∷ []) (at 1 2 3) ≡ refused error.badSize)
+-- 18: missing, negative, mended by another; a sum over 2^40 of sizes that are not
+pub bad-sizes : (feeOfSizes (Total.Missing ∷ []) (at 1 2 3) ≡ refused 18)
+    × (feeOfSizes (Total.Known (negsuc 0) ∷ []) (at 1 2 3) ≡ refused 18)
+    × (feeOfSizes (Total.Known (negsuc 0) ∷ known 1 ∷ []) (at 1 2 3) ≡ refused 18)
+    × (feeOfSizes (known 5 ∷ Total.Missing ∷ []) (at 1 2 3) ≡ refused 18)
+    × (feeOfSizes (known (2 ^ 40) ∷ known 1 ∷ []) (at 1 2 3) ≡ refused 18)
     × (feeOfSizes (known (2 ^ 39) ∷ known (2 ^ 39) ∷ []) (at 1 2 3) ≡ costs 2496)
-    × (feeOfSizes (Total.Missing ∷ []) (at 10001 2 3) ≡ refused error.badSize)
-    × (feeOfSizes (known (2 ^ 40) ∷ known 1 ∷ []) (at 1 2 10001) ≡ refused error.badSize)
 unfolding exact nearestCent isBilled sizesRefusal ratesRefusal orElse fee feeOfSizes
-bad-sizes = (refl, refl, refl, refl, refl, refl, refl, refl)
+bad-sizes = (refl, refl, refl, refl, refl, refl)
+
+-- each size, then the sum: a bad size before and behind sizes whose sum, with it too, is over 2^40; both faults are 18
+pub sizes-then-sum : (feeOfSizes (Total.Known (negsuc 0) ∷ known (2 ^ 40) ∷ known 2 ∷ []) (at 1 2 3) ≡ refused 18)
+    × (feeOfSizes (known (2 ^ 40) ∷ known 2 ∷ Total.Known (negsuc 0) ∷ []) (at 1 2 3) ≡ refused 18)
+    × (feeOfSizes (known (2 ^ 40) ∷ known 2 ∷ Total.Missing ∷ []) (at 1 2 3) ≡ refused 18)
+unfolding exact nearestCent isBilled sizesRefusal ratesRefusal orElse fee feeOfSizes
+sizes-then-sum = (refl, refl, refl)
+
+-- 18 before 19: each fault of a size, of the sum and of the list beside a rate that is too high
+pub sizes-then-rates : (feeOfSizes (Total.Missing ∷ []) (at 10001 2 3) ≡ refused 18)
+    × (feeOfSizes (Total.Known (negsuc 0) ∷ []) (at 1 10001 3) ≡ refused 18)
+    × (feeOfSizes (known (2 ^ 40 + 1) ∷ []) (at 1 2 10001) ≡ refused 18)
+    × (feeOfSizes (known (2 ^ 40) ∷ known 1 ∷ []) (at 1 2 10001) ≡ refused 18)
+    × (feeOfSizes (replicate 1001 (known 0)) (at 10001 2 3) ≡ refused 18)
+unfolding exact nearestCent isBilled sizesRefusal ratesRefusal orElse fee feeOfSizes
+sizes-then-rates = (refl, refl, refl, refl, refl)
 
 -- two halves of a cent are one, and a quarter and a quarter are a half
 pub of-their-sum : (feeOfSizes (known (2 ^ 29) ∷ known (2 ^ 29) ∷ []) (at 1 0 0) ≡ costs 1)
@@ -97,18 +110,20 @@ pub of-their-sum : (feeOfSizes (known (2 ^ 29) ∷ known (2 ^ 29) ∷ []) (at 1 
 unfolding exact nearestCent isBilled sizesRefusal ratesRefusal orElse fee feeOfSizes
 of-their-sum = (refl, refl)
 
--- 1,000 sizes, and one more
+-- 1,000 sizes, and one more, which is 18
 pub most-sizes : (feeOfSizes (replicate 1000 (known gib)) (at 1 2 3) ≡ costs 2424)
-    × (feeOfSizes (replicate 1001 (known 0)) (at 1 2 3) ≡ refused error.badSize)
+    × (feeOfSizes (replicate 1001 (known 0)) (at 1 2 3) ≡ refused 18)
 unfolding exact nearestCent isBilled sizesRefusal ratesRefusal orElse fee feeOfSizes
 most-sizes = (refl, refl)
 
--- of records
+-- of records: 18, 19, and 18 before 19
 pub of-records : (feeOfRecord (file (known (2 ^ 29))) (at 1 0 0) ≡ costs 1)
-    × (feeOfRecord (file Total.Missing) (at 10001 0 0) ≡ refused error.badSize)
-    × (feeOfRecord (file (known 5)) (at 10001 0 0) ≡ refused error.badRate)
+    × (feeOfRecord (file Total.Missing) (at 1 0 0) ≡ refused 18)
+    × (feeOfRecord (file (known 5)) (at 10001 0 0) ≡ refused 19)
+    × (feeOfRecord (file Total.Missing) (at 10001 0 0) ≡ refused 18)
+    × (feeOfRecord (file (known (2 ^ 40 + 1))) (at 10001 0 0) ≡ refused 18)
 unfolding exact nearestCent isBilled totalRefusal ratesRefusal orElse fee feeOfTotal
-of-records = (refl, refl, refl)
+of-records = (refl, refl, refl, refl, refl)
 
 -- ---- hypotheses that are met
 
