@@ -1,5 +1,7 @@
 """Boxes."""
 
+import copy
+import dataclasses
 import math
 import unittest
 from array import array
@@ -99,6 +101,31 @@ class Boxes(unittest.TestCase):
             ends = (box.x.lo, box.x.hi, box.y.lo, box.y.hi, box.z.lo, box.z.hi)
             self.assertEqual(pack("6d", *ends), bytes(48), box)
         self.assertEqual(pack("6d", *zero.to_geoparquet()), bytes(48))
+
+    def test_what_makes_a_box_has_plus_zero_for_each_end(self):
+        for place in range(8):
+            ends = [1.0] * 8
+            ends[place] = -0.0
+            x, y, z, m = zip(ends[::2], ends[1::2])
+            plus = pack("8d", *(end + 0.0 for end in ends))
+            made = BoundingBox(WraparoundInterval(*x), Interval(*y), Interval(*z), Interval(*m))
+            for box in [
+                made,
+                BoundingBox(x, y, z, m),
+                dataclasses.replace(BoundingBox(x, y), z=z, m=m),
+                dataclasses.replace(made, z=z),
+                copy.deepcopy(made),
+                GeoStatistics(bbox=made).bbox,
+                dataclasses.replace(GeoStatistics(), bbox=made).bbox,
+            ]:
+                ends_of_all = [
+                    end for part in (box.x, box.y, box.z, box.m) for end in (part.lo, part.hi)
+                ]
+                self.assertEqual(pack("8d", *ends_of_all), plus, box)
+            # A box's ends are not filled in afterwards.
+            for interval in (made.x, made.y, made.z, made.m):
+                with self.assertRaises(dataclasses.FrozenInstanceError):
+                    interval.lo = -0.0
 
     def test_to_geoparquet(self):
         strip = BoundingBox((170, -170), (1, 2))

@@ -30,33 +30,37 @@ pub struct BoundingBox {
 }
 
 impl BoundingBox {
-    /// A box of which z and m are not known. Intervals may be given as pairs, `(low, high)`.
-    pub fn xy(x: impl Into<WraparoundInterval>, y: impl Into<Interval>) -> BoundingBox {
-        let x = x.into();
+    /// The box of these intervals, a zero as +0 in each of them.
+    pub(crate) fn of(
+        x: WraparoundInterval,
+        y: Interval,
+        z: Option<Interval>,
+        m: Option<Interval>,
+    ) -> BoundingBox {
+        let made = |Interval { lo, hi }| Interval::new(lo, hi);
         BoundingBox {
             x: WraparoundInterval::new(x.lo, x.hi),
             y: made(y),
-            z: None,
-            m: None,
+            z: z.map(made),
+            m: m.map(made),
         }
     }
 
-    /// The same box with this z.
+    /// A box of which z and m are not known. Intervals may be given as pairs, `(low, high)`.
+    pub fn xy(x: impl Into<WraparoundInterval>, y: impl Into<Interval>) -> BoundingBox {
+        BoundingBox::of(x.into(), y.into(), None, None)
+    }
+
+    /// The same box with this z, a zero as +0 in all of it.
     #[must_use]
     pub fn with_z(self, z: impl Into<Interval>) -> BoundingBox {
-        BoundingBox {
-            z: Some(made(z)),
-            ..self
-        }
+        BoundingBox::of(self.x, self.y, Some(z.into()), self.m)
     }
 
-    /// The same box with this m.
+    /// The same box with this m, a zero as +0 in all of it.
     #[must_use]
     pub fn with_m(self, m: impl Into<Interval>) -> BoundingBox {
-        BoundingBox {
-            m: Some(made(m)),
-            ..self
-        }
+        BoundingBox::of(self.x, self.y, self.z, Some(m.into()))
     }
 
     /// A box of empty x and y, of which z and m are not known.
@@ -210,10 +214,4 @@ impl BoundingBox {
         let (found, types) = calls::box_from_wkb(bytes)?;
         Ok((found.bounding_box(), types))
     }
-}
-
-/// The interval with the ends of another, a zero as +0.
-fn made(interval: impl Into<Interval>) -> Interval {
-    let Interval { lo, hi } = interval.into();
-    Interval::new(lo, hi)
 }

@@ -51,12 +51,12 @@ impl Ends {
     /// The box of ends that are one.
     pub(crate) fn bounding_box(&self) -> BoundingBox {
         let [x_lo, x_hi, y_lo, y_hi, z_lo, z_hi, m_lo, m_hi] = self.doubles;
-        BoundingBox {
-            x: WraparoundInterval::new(x_lo, x_hi),
-            y: Interval::new(y_lo, y_hi),
-            z: (self.flags & Z != 0).then_some(Interval::new(z_lo, z_hi)),
-            m: (self.flags & M != 0).then_some(Interval::new(m_lo, m_hi)),
-        }
+        BoundingBox::of(
+            WraparoundInterval::new(x_lo, x_hi),
+            Interval::new(y_lo, y_hi),
+            (self.flags & Z != 0).then_some(Interval::new(z_lo, z_hi)),
+            (self.flags & M != 0).then_some(Interval::new(m_lo, m_hi)),
+        )
     }
 }
 

@@ -135,11 +135,11 @@ impl GeoStatistics {
     }
 }
 
-/// A record that knows its box alone.
+/// A record that knows its box alone, with +0 for zero.
 impl From<BoundingBox> for GeoStatistics {
     fn from(bbox: BoundingBox) -> GeoStatistics {
         GeoStatistics {
-            bbox: Some(bbox),
+            bbox: Some(BoundingBox::of(bbox.x, bbox.y, bbox.z, bbox.m)),
             ..GeoStatistics::UNSPECIFIED
         }
     }

@@ -1,6 +1,6 @@
 //! Every call of boxes.
 
-use johikape::{BoundingBox, Interval, Refusal, WraparoundInterval};
+use johikape::{BoundingBox, GeoStatistics, Interval, Refusal, WraparoundInterval};
 
 const NAN: f64 = f64::NAN;
 
@@ -266,6 +266,50 @@ fn boxes_of_equal_numbers_have_the_same_bits() {
     }
     let array = filled.to_geoparquet().unwrap();
     assert!(array.iter().all(|number| number.to_bits() == 0));
+}
+
+/// The bits of every end of a box, those of z and m where they are known.
+fn all_bits(bounds: &BoundingBox) -> Vec<u64> {
+    let x = [bounds.x.lo, bounds.x.hi, bounds.y.lo, bounds.y.hi];
+    let more = [bounds.z, bounds.m].into_iter().flatten();
+    let more = more.flat_map(|known| [known.lo, known.hi]);
+    x.into_iter().chain(more).map(f64::to_bits).collect()
+}
+
+#[test]
+fn what_makes_a_box_has_plus_zero_for_each_end() {
+    // -0 at one end of a filled box, 1 at the others.
+    for place in 0..8 {
+        let mut ends = [1.0; 8];
+        ends[place] = -0.0;
+        let [x_lo, x_hi, y_lo, y_hi, z_lo, z_hi, m_lo, m_hi] = ends;
+        let x = WraparoundInterval { lo: x_lo, hi: x_hi };
+        let y = Interval { lo: y_lo, hi: y_hi };
+        let z = Interval { lo: z_lo, hi: z_hi };
+        let m = Interval { lo: m_lo, hi: m_hi };
+        let filled = |z, m| BoundingBox { x, y, z, m };
+        let of_all = [
+            BoundingBox::xy(x, y).with_z(z).with_m(m),
+            BoundingBox::xy(x, y).with_m(m).with_z(z),
+            filled(None, None).with_z(z).with_m(m),
+            filled(Some(z), None).with_m(m),
+            filled(None, Some(m)).with_z(z),
+            filled(Some(z), Some(m)).with_z(z),
+            filled(Some(z), Some(m)).with_m(m),
+            GeoStatistics::from(filled(Some(z), Some(m))).bbox.unwrap(),
+        ];
+        let plus = ends.map(|end| if end == 0.0 { 0 } else { f64::to_bits(end) });
+        for bounds in of_all {
+            assert_eq!(all_bits(&bounds), plus, "{bounds:?}");
+        }
+        let of_x_and_y = [
+            BoundingBox::xy(x, y),
+            GeoStatistics::from(filled(None, None)).bbox.unwrap(),
+        ];
+        for bounds in of_x_and_y {
+            assert_eq!(all_bits(&bounds), plus[..4], "{bounds:?}");
+        }
+    }
 }
 
 #[test]
