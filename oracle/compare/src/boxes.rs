@@ -1,7 +1,7 @@
 //! The calls of boxes.
 
 use crate::cases::BoxCase;
-use crate::compared::{Answer, Call, Given, NUMBER, TEST};
+use crate::compared::{Answer, CONTAINING, Call, Given, NUMBER, TEST};
 use crate::layout::{BAD_FLAGS, Bounds, TWO_PARTS};
 use johikape::raw::*;
 use oracle::bounding_box::BoundingBox;
@@ -14,7 +14,7 @@ pub fn calls() -> Vec<Call<BoxCase>> {
             johikape_box_intersects,
             BoundingBox::intersects,
         ),
-        test("box_contains", johikape_box_contains, box_contains),
+        test("box_contains", johikape_box_contains, box_contains).by(CONTAINING),
         join("box_merge", johikape_box_merge, |a, b| {
             let mut merged = a.clone();
             merged.update_box(b);

@@ -1,4 +1,5 @@
-//! A call of the library beside that of the Rust, and whether what they gave is the same.
+//! A call of the library beside that of the Rust, or of a second implementation where the Rust has no such
+//! call, and whether what they gave is the same.
 
 use crate::cases::Case;
 use crate::layout::Record;
@@ -14,7 +15,7 @@ pub struct Given {
     pub after: Record,
 }
 
-/// What the Rust gives: a number and what is written; or the number that refuses the call, which
+/// What the library is to give: a number and what is written; or the number that refuses the call, which
 /// then writes nothing.
 pub type Expected = Result<Answer, u32>;
 
@@ -87,12 +88,24 @@ pub const NUMBER: Words = ["given", "refused 1"];
 /// A number that a call gives is below this.
 const NUMBERS: usize = 20;
 
-/// A call by the library and by the Rust, and how often it gave each number.
+/// Whose answers a call is held against, in the words of a difference; `RUST` is said of the others.
+const RUST: &str = "the Rust";
+pub const CONTAINING: &str = "the Rust, or oracle/src/containing.rs where it is not asked";
+pub const FILTERS: &str =
+    "the Rust, or oracle/src/refusals.rs and containing.rs where it is not asked";
+pub const LAYOUTS: &str = "oracle/src/layouts.rs";
+pub const NAMES: &str = "oracle/src/names.rs";
+pub const TARIFF: &str = "oracle/src/tariff.rs";
+pub const WKB: &str = "oracle/src/wkb.rs";
+
+/// A call by the library and by another, and how often it gave each number.
 pub struct Call<C> {
     name: &'static str,
     words: Words,
     library: Box<dyn Fn(&C) -> Given>,
-    rust: Box<dyn Fn(&C) -> Expected>,
+    other: Box<dyn Fn(&C) -> Expected>,
+    /// Who the other is.
+    by: &'static str,
     counts: [u64; NUMBERS],
     /// How many -0 were in what the library gave.
     minus_zeros: u64,
@@ -103,24 +116,30 @@ impl<C: Case> Call<C> {
         name: &'static str,
         words: Words,
         library: impl Fn(&C) -> Given + 'static,
-        rust: impl Fn(&C) -> Expected + 'static,
+        other: impl Fn(&C) -> Expected + 'static,
     ) -> Call<C> {
         Call {
             name,
             words,
             library: Box::new(library),
-            rust: Box::new(rust),
+            other: Box::new(other),
+            by: RUST,
             counts: [0; NUMBERS],
             minus_zeros: 0,
         }
     }
 
+    /// The same call, with another than the Rust named.
+    pub fn by(self, by: &'static str) -> Call<C> {
+        Call { by, ..self }
+    }
+
     /// Makes the call; gives the case and both answers as text where these differ.
     fn compare(&mut self, case: &C) -> Result<(), String> {
         let given = (self.library)(case);
-        // A panic of the Rust is a difference too, and its case is to be seen.
-        let expected = panic::catch_unwind(AssertUnwindSafe(|| (self.rust)(case)));
-        let rust = match expected {
+        // A panic of the other is a difference too, and its case is to be seen.
+        let expected = panic::catch_unwind(AssertUnwindSafe(|| (self.other)(case)));
+        let other = match expected {
             Ok(expected) if given.is(&expected) => {
                 self.counts[given.number as usize] += 1;
                 if expected.is_ok() {
@@ -133,9 +152,9 @@ impl<C: Case> Call<C> {
             Err(_) => "a panic".to_string(),
         };
         let library = format!("number {}{}", given.number, given.after);
-        let name = self.name;
+        let (name, by) = (self.name, self.by);
         Err(format!(
-            "johikape_{name} differs\n{case}\nthe library: {library}\nthe Rust: {rust}"
+            "johikape_{name} differs\n{case}\nthe library: {library}\n{by}: {other}"
         ))
     }
 

@@ -1,7 +1,7 @@
 //! The calls of filters, and the search for a name.
 
 use crate::cases::{FilterCase, WideCase};
-use crate::compared::{Answer, Call, EVALUATION, Expected, Given, NUMBER, SEARCH};
+use crate::compared::{Answer, Call, EVALUATION, Expected, FILTERS, Given, NAMES, NUMBER, SEARCH};
 use crate::layout::{Bounds, Found};
 use crate::library;
 use johikape::raw;
@@ -15,13 +15,15 @@ pub fn calls() -> Vec<Call<FilterCase>> {
             EVALUATION,
             |case: &FilterCase| Answer::number(library::evaluate_by_position(&case.tables)).into(),
             |case| evaluate(&case.tables, Lookup::ByPosition),
-        ),
+        )
+        .by(FILTERS),
         Call::new(
             "evaluate_by_name",
             EVALUATION,
             |case: &FilterCase| Answer::number(library::evaluate_by_name(&case.tables)).into(),
             |case| evaluate(&case.tables, Lookup::ByName),
-        ),
+        )
+        .by(FILTERS),
         Call::new(
             "filter_bbox",
             NUMBER,
@@ -34,7 +36,8 @@ pub fn calls() -> Vec<Call<FilterCase>> {
                 let bounds = tables.bounds_of(*name).map_err(|number| number as u32)?;
                 Ok(Answer::written(Bounds::of(&bounds)))
             },
-        ),
+        )
+        .by(FILTERS),
     ]
 }
 
@@ -56,13 +59,15 @@ pub fn wide_calls() -> Vec<Call<WideCase>> {
                     written: Found::of(&search).into(),
                 })
             },
-        ),
+        )
+        .by(NAMES),
         Call::new(
             "evaluate_by_name, wide",
             EVALUATION,
             |case: &WideCase| Answer::number(library::evaluate_by_name(&case.tables)).into(),
             |case| evaluate(&case.tables, Lookup::ByName),
-        ),
+        )
+        .by(FILTERS),
     ]
 }
 

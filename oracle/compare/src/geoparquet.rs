@@ -1,7 +1,7 @@
 //! The calls of GeoParquet's `bbox` arrays.
 
 use crate::cases::LayoutCase;
-use crate::compared::{Answer, Call, Given, NUMBER};
+use crate::compared::{Answer, Call, Given, LAYOUTS, NUMBER};
 use crate::layout::{Array, BAD_FLAGS, Bounds};
 use johikape::raw;
 use oracle::layouts::{from_geoparquet, to_geoparquet};
@@ -22,7 +22,8 @@ pub fn calls() -> Vec<Call<LayoutCase>> {
                 let array = to_geoparquet(&bounds).map_err(|number| number as u32)?;
                 Ok(Answer::written(Array::of(&array)))
             },
-        ),
+        )
+        .by(LAYOUTS),
         Call::new(
             "box_from_geoparquet",
             NUMBER,
@@ -35,6 +36,7 @@ pub fn calls() -> Vec<Call<LayoutCase>> {
                 let bounds = from_geoparquet(array).map_err(|number| number as u32)?;
                 Ok(Answer::written(Bounds::of(&bounds)))
             },
-        ),
+        )
+        .by(LAYOUTS),
     ]
 }

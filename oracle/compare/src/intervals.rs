@@ -1,7 +1,7 @@
 //! The calls of intervals and of x.
 
 use crate::cases::IntervalCase;
-use crate::compared::{Answer, Call, Given, NUMBER, TEST, Words};
+use crate::compared::{Answer, CONTAINING, Call, Given, NUMBER, TEST, Words};
 use crate::layout::{Bounds, TWO_PARTS};
 use johikape::Interval;
 use johikape::raw::*;
@@ -27,7 +27,7 @@ pub fn calls() -> Vec<Call<IntervalCase>> {
         alone("x_wraps", johikape_x_wraps, X::is_wraparound),
         with_value("x_accepts", johikape_x_accepts, X::intersects_value),
         with_other("x_intersects", johikape_x_intersects, X::intersects_interval),
-        with_other("x_contains", johikape_x_contains, x_contains),
+        with_other("x_contains", johikape_x_contains, x_contains).by(CONTAINING),
         alone("x_is_empty", johikape_x_is_empty, X::is_empty),
         alone("x_width", johikape_x_width, X::width),
         alone("x_mid", johikape_x_mid, X::mid),

@@ -1,4 +1,5 @@
-//! Makes the same drawn calls to the proved library and to the Rust, and compares what they give.
+//! Makes the same drawn calls to the proved library and to the Rust, or to a second implementation where the
+//! Rust has no such call, and compares what they give.
 
 mod boxes;
 mod cases;

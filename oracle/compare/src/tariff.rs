@@ -1,7 +1,7 @@
 //! The calls of the scan tariff.
 
 use crate::cases::TariffCase;
-use crate::compared::{Answer, Call, Expected, Given, NUMBER};
+use crate::compared::{Answer, Call, Expected, Given, NUMBER, TARIFF};
 use crate::layout::{BAD_FLAGS, Fee};
 use crate::library;
 use oracle::tariff::{fee_of_record, fee_of_sizes};
@@ -20,7 +20,8 @@ pub fn calls() -> Vec<Call<TariffCase>> {
                 let record = record.to_rust().ok_or(BAD_FLAGS)?;
                 priced(fee_of_record(&record, *rates))
             },
-        ),
+        )
+        .by(TARIFF),
         Call::new(
             "fee_of_sizes",
             NUMBER,
@@ -30,7 +31,8 @@ pub fn calls() -> Vec<Call<TariffCase>> {
                 })
             },
             |case| priced(fee_of_sizes(&case.to_rust().ok_or(BAD_FLAGS)?, case.rates)),
-        ),
+        )
+        .by(TARIFF),
     ]
 }
 
