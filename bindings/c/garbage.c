@@ -10,7 +10,7 @@
 #include <stdlib.h>
 #include <string.h>
 
-enum { MOST_ROOMS = 72, MOST_NODES = 1026, MOST_BYTES = 65536, NUMBERS = 20 };
+enum { MOST_NODES = 1026, MOST_BYTES = 65536, NUMBERS = 20 };
 
 /* Of the tariff: the most sizes, the highest rate, and what 2^40 bytes, or 1,024 GiB, cost at it. */
 enum { MOST_SIZES = 1000, HIGHEST_RATE = 10000, HIGHEST_FEE = 1024 * HIGHEST_RATE };
@@ -20,8 +20,6 @@ static const size_t LARGEST_SIZE = (size_t)1 << 40;
 enum { POINT = 1, LINE_STRING = 2, POLYGON = 3, COLLECTION = 7 };
 
 static uint64_t state = 1;
-static void *rooms[MOST_ROOMS];
-static size_t rooms_count;
 static unsigned long counts[NUMBERS];
 static uint8_t written[MOST_BYTES + 100];
 static size_t written_count;
@@ -43,14 +41,33 @@ static size_t length(size_t fitting) {
     return below(8) ? fitting : below(2 * fitting + 20);
 }
 
+/* The memory that a round has taken, the last first. */
+struct room {
+    void *memory;
+    struct room *before;
+};
+static struct room *last_room;
+
 /* Memory of its own, until the round ends. */
 static void *room(size_t size) {
-    void *made = malloc(size);
-    if ((made == NULL && size > 0) || rooms_count == MOST_ROOMS) {
+    struct room *made = malloc(sizeof *made);
+    void *memory = malloc(size);
+    if (made == NULL || (memory == NULL && size > 0)) {
         fputs("no room\n", stderr);
         exit(2);
     }
-    return rooms[rooms_count++] = made;
+    *made = (struct room){memory, last_room};
+    last_room = made;
+    return memory;
+}
+
+static void free_rooms(void) {
+    while (last_room != NULL) {
+        struct room *const freed = last_room;
+        last_room = freed->before;
+        free(freed->memory);
+        free(freed);
+    }
 }
 
 static void *copy(const void *from, size_t size) {
@@ -458,8 +475,7 @@ int main(int count, char **arguments) {
         fees_of_sizes();
         filters();
         searches();
-        while (rooms_count > 0)
-            free(rooms[--rooms_count]);
+        free_rooms();
     }
     printf("%lu rounds of garbage to 37 functions; answers and numbers:", rounds);
     for (int i = 0; i < NUMBERS; i++)
