@@ -108,8 +108,8 @@ class BoundingBox(Value):
 
     @classmethod
     def from_geoparquet(cls, array: Iterable[float]) -> BoundingBox:
-        """The box of such an array: turned back, it is the same array. `Refusal` 12 where it has
-        neither four nor six numbers; then 14, as above.
+        """The box of such an array: turned back, it is the same numbers, +0 for zero. `Refusal` 12
+        where it has neither four nor six numbers; then 14, as above.
 
         >>> BoundingBox.from_geoparquet([10, 38, 20, 46])
         BoundingBox(x=WraparoundInterval(lo=10.0, hi=20.0), y=Interval(lo=38.0, hi=46.0))
