@@ -154,7 +154,7 @@ equal-numbers (a ∷ b ∷ c ∷ d ∷ e ∷ f ∷ g ∷ vs) l p = absurd (⊎-e
 pub array-same-numbers : (vs : List Float) → fromGeoparquet vs .number ≡ 0 → EqualNumbers (array (toGeoparquet (fromGeoparquet vs .bounds))) vs
 array-same-numbers vs e = let p = array-passes vs .0 e in rw (array-there-and-back vs e .1) (equal-numbers vs (p .fourOrSix) (p .bounds))
 
--- ---- "the same bits where the input has no −0"
+-- ---- the same bits, where the input has no −0
 pub box-same-bits : (b : BoundingBox) → toGeoparquet b .number ≡ 0 → Canonical b → fromGeoparquet (array (toGeoparquet b)) .bounds ≡ b
 box-same-bits b e c = rw (box-there-and-back b e) (stays-box c)
 

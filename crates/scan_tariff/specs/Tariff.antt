@@ -34,7 +34,7 @@ thirdBand n = n - min n (512 * gib)
 unfoldable pub exact : ℕ → Rates → ℕ
 exact n r = firstBand n * r .first + secondBand n * r .second + thirdBand n * r .third
 
--- "Then round once to the cent, halves upward": the quotient by 2^30, and one more where twice what is left over is no less than 2^30.
+-- "then round once to the cent, halves upward": the quotient by 2^30, and one more where twice what is left over is no less than 2^30.
 unfoldable pub nearestCent : ℕ → ℕ
 nearestCent e = cond (ltb (2 * (e % gib)) gib) (e / gib) (suc (e / gib))
 
@@ -87,11 +87,11 @@ fee n t r = cond (eqb (refusal n r) 0) (record { number = 0; cents = cents (byte
 unfoldable pub feeOfTotal : Total → Rates → Fee
 feeOfTotal t r = fee (totalRefusal t) t r
 
--- "For one folded record from its `total_size_bytes`".
+-- "the fee for one folded record from its `total_size_bytes`".
 abbrev pub feeOfRecord : GeoStatistics → Rates → Fee
 feeOfRecord s r = feeOfTotal (s .«total_size_bytes») r
 
--- "For a lent list of at most 1,000 sizes as the fee of their sum".
+-- "for a lent list of at most 1,000 sizes as the fee of their sum".
 unfoldable pub feeOfSizes : List Total → Rates → Fee
 feeOfSizes ts r = fee (sizesRefusal ts) (sum ts) r
 
