@@ -6,18 +6,31 @@ use mathlib.Core.Option.{Option, none, some}
 use Prim.Native.Nat.{ℕ, suc, _+_, _^_, _<_, _≤_}
 use native.Mathlib.Omega.{arith}
 use lib.Dec.{T}
-use lib.Ieee.{Float, binary64, toBits, fits}
+use lib.Ieee.{Float, nan, inf, fin, binary64, isNan, ofBits, fits}
 use lib.Ieee.Bits.{ofBits-toBits, toBits-lt}
 use lib.ListN.{length, length-append}
 use lib.Seq.{take-at, drop-at}
 use borrow.Author.Tests.{le-ltb}
-use Rattle.sedona_wkb.specs.Geometry.{DoubleWhere, OfDims, All, encodeNumber, encodeDouble, encodeWhere, encodeCoordinate, encodeFrom, encodeCounted}
+use Rattle.sedona_wkb.specs.Geometry.{DoubleWhere, OfDims, All, Choice, Choices, bitsOf, encodeNumber, encodeDouble, encodeWhere, encodeCoordinate, encodeFrom, encodeCounted}
 use Rattle.sedona_wkb.specs.Reading.{Reader, found, andThen, number, several}
 use Rattle.sedona_wkb.specs.Wkb.{Coordinate, hasZ, hasM, readDouble, readWhere, readCoordinate, counted, readPoint}
 use Rattle.sedona_wkb.specs.declared.heads.Head.{Head}
 use Rattle.sedona_wkb.proofs.Bytes.{length-ordered, value-ordered}
 
 -- ---- numbers and doubles
+
+-- The bits of a double are its own, whichever a NaN has.
+bits-back : (a : Choice) (v : Float) → T (fits binary64 v) → ofBits binary64 (bitsOf a v) ≡ v
+unfolding bitsOf isNan
+bits-back a nan h = a .nan .is
+bits-back a (inf s) h = ofBits-toBits binary64 (inf s) h
+bits-back a (fin s m e) h = ofBits-toBits binary64 (fin s m e) h
+
+bits-lt : (a : Choice) (v : Float) → T (fits binary64 v) → bitsOf a v < 256 ^ 8
+unfolding bitsOf isNan
+bits-lt a nan h = a .nan .eight
+bits-lt a (inf s) h = toBits-lt binary64 (inf s) h
+bits-lt a (fin s m e) h = toBits-lt binary64 (fin s m e) h
 
 module _ (low : Bool) where
   pub length-number : (n v : ℕ) → length (encodeNumber low n v) ≡ n
@@ -32,32 +45,37 @@ module _ (low : Bool) where
       let g : n ≤ length (bs ++ rest) = omega (arith, length-append bs rest) in
       rw (le-ltb (length (bs ++ rest)) n g, take-at bs rest n e, drop-at bs rest n e, value-ordered low n v h)
 
-  double-back : (v : Float) (rest : List ℕ) → T (fits binary64 v) → readDouble low (encodeDouble low v ++ rest) ≡ found v rest
+  double-back : (a : Choice) (v : Float) (rest : List ℕ) → T (fits binary64 v) → readDouble low (encodeDouble low a v ++ rest) ≡ found v rest
   unfolding readDouble encodeDouble andThen
-  double-back v rest h = rw (number-back 8 (toBits binary64 v) rest (toBits-lt binary64 v h), ofBits-toBits binary64 v h)
+  double-back a v rest h = rw (number-back 8 (bitsOf a v) rest (bits-lt a v h), bits-back a v h)
 
-  where-back : (has : Bool) (o : Option Float) (rest : List ℕ) → DoubleWhere has o → readWhere has low (encodeWhere low o ++ rest) ≡ found o rest
+  where-back : (a : Choice) (has : Bool) (o : Option Float) (rest : List ℕ) → DoubleWhere has o → readWhere has low (encodeWhere low a o ++ rest) ≡ found o rest
   unfolding readWhere encodeWhere andThen
-  where-back true none rest h = absurd h
-  where-back true (some v) rest h = rw (double-back v rest h)
-  where-back false none rest h = refl
-  where-back false (some v) rest h = absurd h
+  where-back a true none rest h = absurd h
+  where-back a true (some v) rest h = rw (double-back a v rest h)
+  where-back a false none rest h = refl
+  where-back a false (some v) rest h = absurd h
 
-  pub length-double : (v : Float) → length (encodeDouble low v) ≡ 8
+  pub length-double : (a : Choice) (v : Float) → length (encodeDouble low a v) ≡ 8
   unfolding encodeDouble
-  length-double v = length-number 8 (toBits binary64 v)
+  length-double a v = length-number 8 (bitsOf a v)
 
-module _ (h : Head) (c : Coordinate) (rest : List ℕ) (d : OfDims (h .dims) c) where
-  coordinate-back : readCoordinate h (encodeCoordinate (h .low) c ++ rest) ≡ found c rest
+module _ (h : Head) (by : Choices) (c : Coordinate) (rest : List ℕ) (d : OfDims (h .dims) c) where
+  coordinate-back : readCoordinate h (encodeCoordinate (h .low) by c ++ rest) ≡ found c rest
   unfolding readCoordinate encodeCoordinate andThen
   coordinate-back =
       let low = h .low in
-      let m = encodeWhere low (c .m) ++ rest in
-      let z = encodeWhere low (c .z) ++ m in
-      let y = encodeDouble low (c .y) ++ z in
-      simp append-assoc (rw (double-back low (c .x) y (d .x), double-back low (c .y) z (d .y), where-back low (hasZ (h .dims)) (c .z) m (d .z), where-back low (hasM (h .dims)) (c .m) rest (d .m)))
+      let m = encodeWhere low (by (3 ∷ [])) (c .m) ++ rest in
+      let z = encodeWhere low (by (2 ∷ [])) (c .z) ++ m in
+      let y = encodeDouble low (by (1 ∷ [])) (c .y) ++ z in
+      simp append-assoc (rw (
+        double-back low (by (0 ∷ [])) (c .x) y (d .x),
+        double-back low (by (1 ∷ [])) (c .y) z (d .y),
+        where-back low (by (2 ∷ [])) (hasZ (h .dims)) (c .z) m (d .z),
+        where-back low (by (3 ∷ [])) (hasM (h .dims)) (c .m) rest (d .m),
+      ))
 
-  pub point-back : readPoint h (encodeCoordinate (h .low) c ++ rest) ≡ found (c ∷ []) rest
+  pub point-back : readPoint h (encodeCoordinate (h .low) by c ++ rest) ≡ found (c ∷ []) rest
   unfolding readPoint andThen
   point-back = rw coordinate-back
 

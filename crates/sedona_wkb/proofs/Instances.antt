@@ -1,6 +1,6 @@
 -- Geometries that meet every hypothesis of the theorems, and bytes. Assumes nothing.
 use mathlib.Core.Path.{_≡_, refl, ap}
-use mathlib.Core.Bool.{true, false, not}
+use mathlib.Core.Bool.{Bool, true, false, not}
 use mathlib.Core.List.{List, [], _∷_, _++_, flatMap}
 use mathlib.Core.Option.{none, some}
 use Prim.Native.Nat.{ℕ, _^_}
@@ -15,7 +15,7 @@ use Rattle.sedona_geometry.specs.Types as types
 use Rattle.sedona_geometry.specs.declared.bounding_box.Dimension.the-variants.{Missing}
 use Rattle.sedona_wkb.specs.Extents.{mergeWhere, enter, enterAll}
 use Rattle.sedona_wkb.specs.Bounds.{knownWhere, boxOf, typesOf, refusal, answer, wkbBounds, boxFrom, AcceptsCoordinate}
-use Rattle.sedona_wkb.specs.Geometry.{point, lineString, polygon, Geometry, one, many, collection, nil, cons, coordinatesOf, coordinates, depth, kindOfShape, kindOf, OfDims, All, Orders, encodeNumber, encodeDouble, encodeWhere, encodeCoordinate, encodeFrom, encodeCounted, encodeContent, encodeHead, encodeOne, encode, Writable}
+use Rattle.sedona_wkb.specs.Geometry.{point, lineString, polygon, Geometry, one, many, collection, nil, cons, coordinatesOf, coordinates, depth, kindOfShape, kindOf, OfDims, All, Place, Choices, encodeNumber, encodeDouble, encodeWhere, encodeCoordinate, encodeFrom, encodeCounted, encodeContent, encodeHead, encodeOne, encode, quiet, plain, Writable}
 use Rattle.sedona_wkb.specs.Numbers.{valueOf, bytesOf, ordered}
 use Rattle.sedona_wkb.specs.Reading.{Reading, found, andThen, number, several}
 use Rattle.sedona_wkb.specs.Wkb.{Coordinate, Spelled, isType, isPart, tested, readHead, readPartHead, readDouble, readWhere, readCoordinate, counted, readPoint, readOne, within, byKind, readBody, ended, readRest, spelled}
@@ -25,16 +25,16 @@ use Rattle.sedona_wkb.proofs.ThereAndBack.{asSpelled, there-and-back, e
 abbrev num : ℕ → Float
 num n = fin false n (pos 0)
 
--- Each part has the other byte order than its parent; all have the low byte first; all have the high byte first.
-unfoldable pub alternating : Orders
-alternating [] = true
-alternating (k ∷ place) = not (alternating place)
+-- Each part has the other byte order than its parent; all have the high byte first.
+unfoldable pub isEven : Place → Bool
+isEven [] = true
+isEven (k ∷ place) = not (isEven place)
 
-abbrev lowFirst : Orders
-lowFirst place = true
+unfoldable pub alternating : Choices
+alternating place = record { low = isEven place; nan = quiet }
 
-abbrev highFirst : Orders
-highFirst place = false
+abbrev highFirst : Choices
+highFirst place = record { low = false; nan = quiet }
 
 -- ---- a collection with mixed byte orders: a Point, a MultiPoint of two, and a collection of a LineString
 
@@ -64,8 +64,8 @@ mixed-writable =
 pub mixed-read : spelled (encode alternating 0 mixed) ≡ found (asSpelled 0 mixed) []
 mixed-read = there-and-back alternating 0 mixed mixed-writable
 
-pub mixed-in-either-order : wkbBounds (encode alternating 0 mixed) ≡ wkbBounds (encode lowFirst 0 mixed)
-mixed-in-either-order = either-order alternating lowFirst 0 mixed mixed-writable
+pub mixed-in-either-order : wkbBounds (encode alternating 0 mixed) ≡ wkbBounds (encode plain 0 mixed)
+mixed-in-either-order = either-order alternating plain 0 mixed mixed-writable
 
 pub mixed-accepted : All (AcceptsCoordinate (boxFrom (encode alternating 0 mixed))) (coordinates mixed)
 mixed-accepted = accepts-every-written alternating 0 mixed mixed-writable

@@ -1,4 +1,4 @@
--- What is written of a geometry is as long in all byte orders. Assumes nothing.
+-- What is written of a geometry is as long by any choices. Assumes nothing.
 use mathlib.Core.Path.{_≡_, refl, sym, _∙_}
 use mathlib.Core.Bool.{Bool}
 use mathlib.Core.List.{List, [], _∷_}
@@ -6,18 +6,19 @@ use mathlib.Core.Option.{Option, none, some}
 use Prim.Native.Nat.{ℕ, suc, _+_, _*_}
 use lib.Ieee.{Float}
 use lib.ListN.{length, length-append}
-use Rattle.sedona_wkb.specs.Geometry.{Shape, point, lineString, polygon, Content, Geometry, one, many, collection, Geometries, nil, cons, Orders, inPart, encodeWhere, encodeCoordinate, encodeFrom, encodeCounted, encodeContent, encodeHead, encodeOne, encode, encodeAll}
+use Rattle.sedona_wkb.specs.Geometry.{Shape, point, lineString, polygon, Content, Geometry, one, many, collection, Geometries, nil, cons, Choice, Choices, inPart, encodeWhere, encodeCoordinate, encodeFrom, encodeCounted, encodeLine, encodeContent, encodeHead, encodeOne, encode, encodeAll}
 use Rattle.sedona_wkb.specs.Wkb.{Coordinate}
 use Rattle.sedona_wkb.proofs.Back.{length-number, length-double}
 
-length-where : (low low′ : Bool) (o : Option Float) → length (encodeWhere low o) ≡ length (encodeWhere low′ o)
+length-where : (low low′ : Bool) (a a′ : Choice) (o : Option Float) → length (encodeWhere low a o) ≡ length (encodeWhere low′ a′ o)
 unfolding encodeWhere
-length-where low low′ none = refl
-length-where low low′ (some v) = length-double low v ∙ sym (length-double low′ v)
+length-where low low′ a a′ none = refl
+length-where low low′ a a′ (some v) = length-double low a v ∙ sym (length-double low′ a′ v)
 
-length-coordinate : (low low′ : Bool) (c : Coordinate) → length (encodeCoordinate low c) ≡ length (encodeCoordinate low′ c)
+length-coordinate : (low low′ : Bool) (by by′ : Choices) (c : Coordinate) → length (encodeCoordinate low by c) ≡ length (encodeCoordinate low′ by′ c)
 unfolding encodeCoordinate
-length-coordinate low low′ c = simp (length-append, length-double) (rw (length-where low low′ (c .z), length-where low low′ (c .m)))
+length-coordinate low low′ by by′ c =
+    simp (length-append, length-double) (rw (length-where low low′ (by (2 ∷ [])) (by′ (2 ∷ [])) (c .z), length-where low low′ (by (3 ∷ [])) (by′ (3 ∷ [])) (c .m)))
 
 module _ {A : Type 0} (f f′ : ℕ → A → List ℕ) (same : (k : ℕ) (x : A) → length (f k x) ≡ length (f′ k x)) where
   length-from : (k : ℕ) (xs : List A) → length (encodeFrom f k xs) ≡ length (encodeFrom f′ k xs)
@@ -29,30 +30,34 @@ module _ {A : Type 0} (f f′ : ℕ → A → List ℕ) (same : (k : ℕ) (x : A
   unfolding encodeCounted
   length-counted low low′ xs = simp (length-append, length-number) (rw (length-from 0 xs))
 
-length-content : (low low′ : Bool) (shape : Shape) (c : Content shape) → length (encodeContent low shape c) ≡ length (encodeContent low′ shape c)
+length-line : (low low′ : Bool) (by by′ : Choices) (cs : List Coordinate) → length (encodeLine low by cs) ≡ length (encodeLine low′ by′ cs)
+length-line low low′ by by′ cs = length-counted _ _ (λ k. length-coordinate low low′ (inPart by k) (inPart by′ k)) low low′ cs
+
+length-content : (low low′ : Bool) (by by′ : Choices) (shape : Shape) (c : Content shape) → length (encodeContent low by shape c) ≡ length (encodeContent low′ by′ shape c)
 unfolding encodeContent
-length-content low low′ point c = length-coordinate low low′ c
-length-content low low′ lineString cs = length-counted _ _ (λ k. length-coordinate low low′) low low′ cs
-length-content low low′ polygon rings = length-counted _ _ (λ k. length-counted _ _ (λ j. length-coordinate low low′) low low′) low low′ rings
+length-content low low′ by by′ point c = length-coordinate low low′ by by′ c
+length-content low low′ by by′ lineString cs = length-line low low′ by by′ cs
+length-content low low′ by by′ polygon rings = length-counted _ _ (λ k. length-line low low′ (inPart by k) (inPart by′ k)) low low′ rings
 
 length-head : (low : Bool) (kind d : ℕ) → length (encodeHead low kind d) ≡ 5
 unfolding encodeHead
 length-head low kind d = rw (length-number low 4 (1000 * d + kind))
 
-length-one : (low low′ : Bool) (d : ℕ) (shape : Shape) (c : Content shape) → length (encodeOne low d shape c) ≡ length (encodeOne low′ d shape c)
+length-one : (by by′ : Choices) (d : ℕ) (shape : Shape) (c : Content shape) → length (encodeOne by d shape c) ≡ length (encodeOne by′ d shape c)
 unfolding encodeOne
-length-one low low′ d shape c = simp (length-append, length-head) (rw (length-content low low′ shape c))
+length-one by by′ d shape c = simp (length-append, length-head) (rw (length-content (by [] .low) (by′ [] .low) by by′ shape c))
 
 module _ (d : ℕ) where
   mutual
     unfolding encode encodeAll
 
-    pub length-any : (orders orders′ : Orders) (g : Geometry) → length (encode orders d g) ≡ length (encode orders′ d g)
-    length-any orders orders′ (one shape c) = length-one (orders []) (orders′ []) d shape c
-    length-any orders orders′ (many shape cs) =
-        simp (length-append, length-head) (rw (length-counted (λ k. encodeOne (orders (k ∷ [])) d shape) (λ k. encodeOne (orders′ (k ∷ [])) d shape) (λ k. length-one (orders (k ∷ [])) (orders′ (k ∷ [])) d shape) (orders []) (orders′ []) cs))
-    length-any orders orders′ (collection gs) = simp (length-append, length-head, length-number) (rw (length-all orders orders′ 0 gs))
+    pub length-any : (by by′ : Choices) (g : Geometry) → length (encode by d g) ≡ length (encode by′ d g)
+    length-any by by′ (one shape c) = length-one by by′ d shape c
+    length-any by by′ (many shape cs) =
+        simp (length-append, length-head)
+        (rw (length-counted (λ k. encodeOne (inPart by k) d shape) (λ k. encodeOne (inPart by′ k) d shape) (λ k. length-one (inPart by k) (inPart by′ k) d shape) (by [] .low) (by′ [] .low) cs))
+    length-any by by′ (collection gs) = simp (length-append, length-head, length-number) (rw (length-all by by′ 0 gs))
 
-    length-all : (orders orders′ : Orders) (k : ℕ) (gs : Geometries) → length (encodeAll orders d k gs) ≡ length (encodeAll orders′ d k gs)
-    length-all orders orders′ k nil = refl
-    length-all orders orders′ k (cons g gs) = simp length-append (rw (length-any (inPart orders k) (inPart orders′ k) g, length-all orders orders′ (suc k) gs))
+    length-all : (by by′ : Choices) (k : ℕ) (gs : Geometries) → length (encodeAll by d k gs) ≡ length (encodeAll by′ d k gs)
+    length-all by by′ k nil = refl
+    length-all by by′ k (cons g gs) = simp length-append (rw (length-any (inPart by k) (inPart by′ k) g, length-all by by′ (suc k) gs))

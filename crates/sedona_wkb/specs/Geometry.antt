@@ -1,10 +1,12 @@
--- Geometries, apart from any bytes; and the bytes that spell them, with a byte order chosen for each part.
+-- Geometries, apart from any bytes; and the bytes that spell them, with a byte order chosen for each part and bits for each NaN.
+use mathlib.Core.Path.{_≡_, refl}
 use mathlib.Core.Bool.{Bool, true, false, cond}
 use mathlib.Core.List.{List, [], _∷_, _++_, flatMap}
 use mathlib.Core.Option.{Option, none, some}
-use Prim.Native.Nat.{ℕ, suc, _+_, _*_, _<_, _≤_, max}
+use Prim.Native.Nat.{ℕ, suc, _+_, _*_, _^_, _<_, _≤_, max}
+use native.Mathlib.Omega.{arith}
 use lib.Dec.{T}
-use lib.Ieee.{Float, binary64, toBits, fits}
+use lib.Ieee.{Float, nan, binary64, isNan, ofBits, toBits, fits}
 use lib.ListN.{length}
 use Rattle.sedona_wkb.specs.Numbers.{bytesOf, ordered}
 use Rattle.sedona_wkb.specs.Wkb.{Coordinate, hasZ, hasM}
@@ -97,31 +99,47 @@ All P (x ∷ xs) = P x × All P xs
 
 -- ---- the bytes
 
--- Where a part is: the number of the outermost geometry's part that it is in, then of that one's, and so on down to itself. The
--- outermost geometry is at [].
+-- Where something is: the number of the outermost geometry's part that it is in, then of that one's, and so on down to itself. The
+-- outermost geometry is at []. A polygon's parts are its rings, a line's its coordinates, a coordinate's its x, y, z and m (0 to 3).
 abbrev pub Place : Type 0
 Place = List ℕ
 
--- A byte order for each part, true where the low byte is first.
-abbrev pub Orders : Type 0
-Orders = Place → Bool
+-- Bits of a NaN, in eight bytes.
+pub record NanBits : Type 0 where
+  pub bits : ℕ
+  pub eight : bits < 256 ^ 8
+  pub is : ofBits binary64 bits ≡ nan
 
--- The orders of part k and of what is in it.
-abbrev pub inPart : Orders → ℕ → Orders
-inPart orders k place = orders (k ∷ place)
+-- What is free in writing: a part's byte order, true where the low byte is first; and a double's bits, where it is NaN.
+pub record Choice : Type 0 where
+  pub low : Bool
+  pub nan : NanBits
+
+-- A choice for each place.
+abbrev pub Choices : Type 0
+Choices = Place → Choice
+
+-- Those of part k and of what is in it.
+abbrev pub inPart : Choices → ℕ → Choices
+inPart by k place = by (k ∷ place)
 
 unfoldable pub encodeNumber : Bool → ℕ → ℕ → List ℕ
 encodeNumber low n v = ordered low (bytesOf n v)
 
-unfoldable pub encodeDouble : Bool → Float → List ℕ
-encodeDouble low v = encodeNumber low 8 (toBits binary64 v)
+-- The bits of a double: of a NaN those that are chosen.
+unfoldable pub bitsOf : Choice → Float → ℕ
+bitsOf choice v = cond (isNan v) (choice .nan .bits) (toBits binary64 v)
 
-unfoldable pub encodeWhere : Bool → Option Float → List ℕ
-encodeWhere low none = []
-encodeWhere low (some v) = encodeDouble low v
+unfoldable pub encodeDouble : Bool → Choice → Float → List ℕ
+encodeDouble low choice v = encodeNumber low 8 (bitsOf choice v)
 
-unfoldable pub encodeCoordinate : Bool → Coordinate → List ℕ
-encodeCoordinate low c = encodeDouble low (c .x) ++ encodeDouble low (c .y) ++ encodeWhere low (c .z) ++ encodeWhere low (c .m)
+unfoldable pub encodeWhere : Bool → Choice → Option Float → List ℕ
+encodeWhere low choice none = []
+encodeWhere low choice (some v) = encodeDouble low choice v
+
+unfoldable pub encodeCoordinate : Bool → Choices → Coordinate → List ℕ
+encodeCoordinate low by c =
+    encodeDouble low (by (0 ∷ [])) (c .x) ++ encodeDouble low (by (1 ∷ [])) (c .y) ++ encodeWhere low (by (2 ∷ [])) (c .z) ++ encodeWhere low (by (3 ∷ [])) (c .m)
 
 -- Parts one after the other, from part k on.
 unfoldable pub encodeFrom : {A : Type 0} → (ℕ → A → List ℕ) → ℕ → List A → List ℕ
@@ -132,32 +150,41 @@ encodeFrom f k (x ∷ xs) = f k x ++ encodeFrom f (suc k) xs
 unfoldable pub encodeCounted : {A : Type 0} → Bool → (ℕ → A → List ℕ) → List A → List ℕ
 encodeCounted low f xs = encodeNumber low 4 (length xs) ++ encodeFrom f 0 xs
 
-abbrev pub encodeLine : Bool → List Coordinate → List ℕ
-encodeLine low cs = encodeCounted low (λ k. encodeCoordinate low) cs
+abbrev pub encodeLine : Bool → Choices → List Coordinate → List ℕ
+encodeLine low by cs = encodeCounted low (λ k. encodeCoordinate low (inPart by k)) cs
 
-unfoldable pub encodeContent : Bool → (shape : Shape) → Content shape → List ℕ
-encodeContent low point c = encodeCoordinate low c
-encodeContent low lineString cs = encodeLine low cs
-encodeContent low polygon rings = encodeCounted low (λ k. encodeLine low) rings
+unfoldable pub encodeContent : Bool → Choices → (shape : Shape) → Content shape → List ℕ
+encodeContent low by point c = encodeCoordinate low by c
+encodeContent low by lineString cs = encodeLine low by cs
+encodeContent low by polygon rings = encodeCounted low (λ k. encodeLine low (inPart by k)) rings
 
 -- A byte order, and a type code of a kind and dimensions.
 unfoldable pub encodeHead : Bool → ℕ → ℕ → List ℕ
 encodeHead low kind d = cond low 1 0 ∷ encodeNumber low 4 (1000 * d + kind)
 
-unfoldable pub encodeOne : Bool → ℕ → (shape : Shape) → Content shape → List ℕ
-encodeOne low d shape c = encodeHead low (kindOfShape shape) d ++ encodeContent low shape c
+unfoldable pub encodeOne : Choices → ℕ → (shape : Shape) → Content shape → List ℕ
+encodeOne by d shape c = encodeHead (by [] .low) (kindOfShape shape) d ++ encodeContent (by [] .low) by shape c
 
 -- A geometry in the dimensions d.
 unfoldable mutual
-  pub encode : Orders → ℕ → Geometry → List ℕ
-  encode orders d (one shape c) = encodeOne (orders []) d shape c
-  encode orders d (many shape cs) = encodeHead (orders []) (3 + kindOfShape shape) d ++ encodeCounted (orders []) (λ k. encodeOne (orders (k ∷ [])) d shape) cs
-  encode orders d (collection gs) = encodeHead (orders []) 7 d ++ (encodeNumber (orders []) 4 (howMany gs) ++ encodeAll orders d 0 gs)
+  pub encode : Choices → ℕ → Geometry → List ℕ
+  encode by d (one shape c) = encodeOne by d shape c
+  encode by d (many shape cs) = encodeHead (by [] .low) (3 + kindOfShape shape) d ++ encodeCounted (by [] .low) (λ k. encodeOne (inPart by k) d shape) cs
+  encode by d (collection gs) = encodeHead (by [] .low) 7 d ++ (encodeNumber (by [] .low) 4 (howMany gs) ++ encodeAll by d 0 gs)
 
   -- Those of a collection, from part k on.
-  pub encodeAll : Orders → ℕ → ℕ → Geometries → List ℕ
-  encodeAll orders d k nil = []
-  encodeAll orders d k (cons g gs) = encode (inPart orders k) d g ++ encodeAll orders d (suc k) gs
+  pub encodeAll : Choices → ℕ → ℕ → Geometries → List ℕ
+  encodeAll by d k nil = []
+  encodeAll by d k (cons g gs) = encode (inPart by k) d g ++ encodeAll by d (suc k) gs
+
+-- The bits that `toBits` has for NaN.
+unfoldable pub quiet : NanBits
+unfolding ofBits
+quiet = record { bits = 0x7ff8000000000000; eight = omega arith; is = refl }
+
+-- The low byte first, and these.
+abbrev pub plain : Choices
+plain place = record { low = true; nan = quiet }
 
 -- A geometry that can be written and read.
 pub record Writable (d : ℕ) (g : Geometry) : Type 0 where
@@ -165,7 +192,7 @@ pub record Writable (d : ℕ) (g : Geometry) : Type 0 where
   pub dims : d < 4
   -- "Parts have their parent's dimensions": all coordinates have these, and are doubles
   pub each : All (OfDims d) (coordinates g)
-  -- "Read up to 64 KiB": as written in one byte order, and so in any
-  pub size : length (encode (λ place. true) d g) ≤ 65536
+  -- "Read up to 64 KiB": as written by one choice, and so by any
+  pub size : length (encode plain d g) ≤ 65536
   -- no "collection (type 7 alone) more than 32 deep"
   pub nesting : depth g ≤ 32
