@@ -1,7 +1,7 @@
 -- Numbers and doubles by their bytes. Assumes nothing.
 use mathlib.Core.Path.{_≡_, refl, sym, ap, _∙_}
 use mathlib.Core.Bool.{Bool, true, false, false≢true}
-use mathlib.Core.List.{List, [], _∷_, reverse, reverse-reverse}
+use mathlib.Core.List.{List, [], _∷_, reverseAux, reverse, reverse-reverse}
 use Prim.Native.Nat.{ℕ, zero, suc, _+_, _*_, _%_, _/_, _^_, _<_, _≤_}
 use native.Mathlib.Nat.{add-zero, pow-succ'}
 use native.Mathlib.Omega.{arith}
@@ -54,6 +54,23 @@ bytes-of-value (b ∷ bs) h =
     let q : (b + 256 * valueOf bs) / 256 ≡ valueOf bs = omega (arith, h .0) in
     rw (p, q, bytes-of-value bs (h .1))
 
+value-below : (bs : List ℕ) → All (λ b. b < 256) bs → valueOf bs < 256 ^ length bs
+unfolding valueOf
+value-below [] h = omega arith
+value-below (b ∷ bs) h = rw (pow-succ' 256 (length bs)) (omega (arith, h .0, value-below bs (h .1)))
+
+all-reverse : {A : Type 0} (P : A → Type 0) (xs ys : List A) → All P xs → All P ys → All P (reverseAux xs ys)
+all-reverse P [] ys h g = g
+all-reverse P (x ∷ xs) ys h g = all-reverse P xs (x ∷ ys) (h .1) (h .0, g)
+
+-- Bytes are those of their number, in either order; and this is below what so many can hold.
+pub ordered-of-value : (low : Bool) (bs : List ℕ) → All (λ b. b < 256) bs → (bs ≡ ordered low (bytesOf (length bs) (valueOf (ordered low bs)))) × (valueOf (ordered low bs) < 256 ^ length bs)
+unfolding ordered
+ordered-of-value true bs h = (sym (bytes-of-value bs h), value-below bs h)
+ordered-of-value false bs h =
+    let g = all-reverse (λ (b : ℕ). b < 256) bs [] h tt in
+    rw (← length-reverse bs) (rw (bytes-of-value (reverse bs) g, reverse-reverse bs), value-below (reverse bs) g)
+
 all-bytes : (n : ℕ) (l : List ℕ) → ((i : ℕ) → getD l i 0 < 256) → All (λ b. b < 256) (take n l)
 all-bytes zero l h = tt
 all-bytes (suc n) [] h = tt
@@ -96,7 +113,7 @@ value-ordered false n v h = rw (reverse-reverse (bytesOf n v)) (value-of-bytes n
 
 -- ---- the bits of a NaN
 
-is-nan : (v : Float) → isNan v ≡ true → v ≡ nan
+pub is-nan : (v : Float) → isNan v ≡ true → v ≡ nan
 unfolding isNan
 is-nan nan e = refl
 is-nan (inf s) e = absurd (false≢true e)

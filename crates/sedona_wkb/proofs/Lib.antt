@@ -7,4 +7,6 @@ mod Covering
 mod Back
 mod Lengths
 mod ThereAndBack
+mod Written
+mod Accepted
 mod Instances

@@ -2,7 +2,7 @@
 use mathlib.Core.Path.{_≡_, refl, subst}
 use mathlib.Core.Bool.{Bool, true, false, cond, and-eq-true-iff}
 use mathlib.Core.List.{List, [], _∷_, _++_}
-use Prim.Native.Nat.{ℕ, zero, suc, _+_, _<_}
+use Prim.Native.Nat.{ℕ, zero, suc, _<_}
 use native.Mathlib.Omega.{arith}
 use lib.Dec.{T, eqb, ltb, leb}
 use lib.Ieee.{Float, binary64, fits}
@@ -39,7 +39,7 @@ only-either P false p q f g t = g t
 
 -- ---- heads
 
-abbrev Passes : (Head → Bool) → Head → Type 0
+abbrev pub Passes : (Head → Bool) → Head → Type 0
 Passes test h = test h ≡ true
 
 tested-only : (test : Head → Bool) (h : Head) (t : List ℕ) (b : Bool) → test h ≡ b → Only (Passes test) (tested b h t)
@@ -56,21 +56,22 @@ head-only s =
     tested-only isType (headOf (eqb order 1) code) v _ refl)) t)
 
 -- The kind is one, and the dimensions are some.
-known : (h : Head) → Passes isType h → (h .kind < 8) × (h .dims < 4)
+pub known : (h : Head) → Passes isType h → (0 < h .kind) × (h .kind < 8) × (h .dims < 4)
 unfolding isType
 known h e =
-    let p = and-eq-true-iff (leb (h .kind) 7) _ .0 (and-eq-true-iff (ltb 0 (h .kind)) _ .0 e .1) in
-    (omega (arith, leb-true (h .kind) 7 (p .0)), ltb-true (h .dims) 4 (p .1))
+    let o = and-eq-true-iff (ltb 0 (h .kind)) _ .0 e in
+    let p = and-eq-true-iff (leb (h .kind) 7) _ .0 (o .1) in
+    (ltb-true 0 (h .kind) (o .0), omega (arith, leb-true (h .kind) 7 (p .0)), ltb-true (h .dims) 4 (p .1))
 
 pub head-known : (s : List ℕ) (h : Head) (t : List ℕ) → readHead s ≡ found h t → (h .kind < 8) × (h .dims < 4)
-head-known s h t e = known h (rw e at (head-only s))
+head-known s h t e = let k = known h (rw e at (head-only s)) in (k .1, k .2)
 
 -- A part has its parent's dimensions.
 part-head-only : (parent : Head) (s : List ℕ) → Only (Passes (isPart parent)) (readPartHead parent s)
 unfolding readPartHead
 part-head-only parent s = only-then Any (Passes (isPart parent)) (readHead s) _ (anything (readHead s)) (λ h t a. tested-only (isPart parent) h t _ refl)
 
-same-dims : (parent h : Head) → Passes (isPart parent) h → h .dims ≡ parent .dims
+pub same-dims : (parent h : Head) → Passes (isPart parent) h → h .dims ≡ parent .dims
 unfolding isPart
 same-dims parent h e = eqb-true (h .dims) (parent .dims) (and-eq-true-iff (eqb (h .dims) (parent .dims)) _ .0 e .0)
 

@@ -20,7 +20,7 @@ use Rattle.sedona_wkb.proofs.Readers.{byte-there, body-one, body-many, 
 
 -- ---- heads
 
-abbrev headFor : Bool → ℕ → ℕ → Head
+abbrev pub headFor : Bool → ℕ → ℕ → Head
 headFor low kind d = record { low = low; kind = kind; dims = d }
 
 byte-back : (b : ℕ) (t : List ℕ) → number true 1 (b ∷ t) ≡ found b t
@@ -47,7 +47,7 @@ module _ (kind d : ℕ) (least : 0 < kind) (most : kind ≤ 7) (dims : d < 4) (r
 
 -- ---- points, lines, polygons
 
-single : (cs : List Coordinate) → flatMap (λ c. c ∷ []) cs ≡ cs
+pub single : (cs : List Coordinate) → flatMap (λ c. c ∷ []) cs ≡ cs
 unfolding flatMap
 single [] = refl
 single (c ∷ cs) = ap {B = List Coordinate} (λ r. c ∷ r) (single cs)
@@ -85,7 +85,7 @@ least-kind point = omega arith
 least-kind lineString = omega arith
 least-kind polygon = omega arith
 
-most-kind : (shape : Shape) → kindOfShape shape ≤ 3
+pub most-kind : (shape : Shape) → kindOfShape shape ≤ 3
 unfolding kindOfShape
 most-kind point = omega arith
 most-kind lineString = omega arith

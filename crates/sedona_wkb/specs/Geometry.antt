@@ -196,3 +196,11 @@ pub record Writable (d : ℕ) (g : Geometry) : Type 0 where
   pub size : length (encode plain d g) ≤ 65536
   -- no "collection (type 7 alone) more than 32 deep"
   pub nesting : depth g ≤ 32
+
+-- Bytes that are what some choices write of such a geometry.
+pub record Writing (s : List ℕ) : Type 0 where
+  pub choices : Choices
+  pub dims : ℕ
+  pub geometry : Geometry
+  pub writable : Writable dims geometry
+  pub bytes : s ≡ encode choices dims geometry
