@@ -1,6 +1,6 @@
 -- Numbers and doubles by their bytes. Assumes nothing.
 use mathlib.Core.Path.{_≡_, refl, sym, ap, _∙_}
-use mathlib.Core.Bool.{Bool, true, false, false≢true}
+use mathlib.Core.Bool.{Bool, true, false, cond, false≢true}
 use mathlib.Core.List.{List, [], _∷_, reverseAux, reverse, reverse-reverse}
 use Prim.Native.Nat.{ℕ, zero, suc, _+_, _*_, _%_, _/_, _^_, _<_, _≤_}
 use native.Mathlib.Nat.{add-zero, pow-succ'}
@@ -101,6 +101,11 @@ value-of-bytes (suc n) v h =
     let g : v < 256 * 256 ^ n = rw (pow-succ' 256 n) at h in
     omega (arith, value-of-bytes n (v / 256) (omega arith))
 
+below-bytes : (n v : ℕ) → All (λ b. b < 256) (bytesOf n v)
+unfolding bytesOf
+below-bytes zero v = tt
+below-bytes (suc n) v = (omega arith, below-bytes n (v / 256))
+
 pub length-ordered : (low : Bool) (n v : ℕ) → length (ordered low (bytesOf n v)) ≡ n
 unfolding ordered
 length-ordered true n v = length-bytes n v
@@ -110,6 +115,14 @@ pub value-ordered : (low : Bool) (n v : ℕ) → v < 256 ^ n → valueOf (ordere
 unfolding ordered
 value-ordered true n v h = value-of-bytes n v h
 value-ordered false n v h = rw (reverse-reverse (bytesOf n v)) (value-of-bytes n v h)
+
+pub bytes-ordered : (low : Bool) (n v : ℕ) → All (λ b. b < 256) (ordered low (bytesOf n v))
+unfolding ordered
+bytes-ordered low n v = go low
+  where
+    go : (low : Bool) → All (λ b. b < 256) (cond low (bytesOf n v) (reverse (bytesOf n v)))
+    go true = below-bytes n v
+    go false = all-reverse (λ (b : ℕ). b < 256) (bytesOf n v) [] (below-bytes n v) tt
 
 -- ---- the bits of a NaN
 

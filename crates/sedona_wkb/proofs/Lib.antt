@@ -9,4 +9,5 @@ mod Lengths
 mod ThereAndBack
 mod Written
 mod Accepted
+mod Encoded
 mod Instances
