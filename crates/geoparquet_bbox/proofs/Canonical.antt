@@ -8,7 +8,7 @@ use lib.ListN.{length}
 use lib.Ieee.{Float}
 use Rattle.sedona_geometry.specs.Interval as interval
 use Rattle.sedona_geometry.specs.WraparoundInterval as wraparound
-use Rattle.sedona_geometry.specs.BoundingBox.{Canonical, CanonicalWhereKnown, plusZero}
+use Rattle.sedona_geometry.specs.BoundingBox.{WhereKnown, Canonical, plusZero}
 use Rattle.sedona_geometry.specs.declared.interval.Interval.{Interval}
 use Rattle.sedona_geometry.specs.declared.bounding_box.Dimension.{Dimension}
 use Rattle.sedona_geometry.specs.declared.bounding_box.Dimension.the-variants.{Missing, Known}
@@ -30,7 +30,7 @@ unfolding fromGeoparquet
 from-geoparquet-canonical vs = numbered-canonical (arrayRefusal vs) (boxOf vs)
 
 -- ---- towards an array: its numbers in six places, with 0 behind them
-given-canonical : (x y : Interval) (z : Dimension) → interval.Canonical x → interval.Canonical y → CanonicalWhereKnown z → NoMinusZero (given (lowsThenHighs x y z) .numbers)
+given-canonical : (x y : Interval) (z : Dimension) → interval.Canonical x → interval.Canonical y → WhereKnown interval.Canonical z → NoMinusZero (given (lowsThenHighs x y z) .numbers)
 unfolding lowsThenHighs
 given-canonical x y Missing cx cy cz = (cx .lo, (cy .lo, (cx .hi, (cy .hi, (refl, (refl, tt))))))
 given-canonical x y (Known z) cx cy cz = (cx .lo, (cy .lo, (cz .lo, (cx .hi, (cy .hi, (cz .hi, tt))))))

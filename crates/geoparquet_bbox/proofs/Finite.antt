@@ -3,7 +3,8 @@ use mathlib.Core.Path.{_≡_, refl}
 use mathlib.Core.Bool.{true, false}
 use lib.Ieee.{Float, nan, inf, fin, lt}
 use Rattle.sedona_geometry.specs.Float.{abs}
-use Rattle.sedona_geometry.proofs.Order.{Number, finite, holds}
+use Rattle.sedona_geometry.proofs.Booleans.{holds}
+use Rattle.sedona_geometry.proofs.Order.{Number, finite}
 use Rattle.sedona_geometry.proofs.PlusZero.{Alike, same, zeros}
 use Rattle.geoparquet_bbox.specs.Layout.{isFinite}
 

@@ -35,10 +35,13 @@ strip = xyzm (wraparound.new (plus 170) (minus 170)) (interval.new (minus 10) (p
 strip-publishable : Publishable strip
 unfolding isFinite le lt eq round ofInt
 strip-publishable = record {
-  x = record { lo = refl; hi = refl };
-  y = record { ends = record { lo = refl; hi = refl }; lowToHigh = refl };
-  z = record { ends = record { lo = refl; hi = refl }; lowToHigh = refl };
-  m = refl;
+  numbers = record {
+    x = record { lo = refl; hi = refl };
+    y = record { ends = record { lo = refl; hi = refl }; lowToHigh = refl };
+    z = record { ends = record { lo = refl; hi = refl }; lowToHigh = refl };
+    m = tt;
+  };
+  noM = refl;
 }
 
 strip-canonical : Canonical strip
@@ -56,10 +59,13 @@ unfolding boxOf isFinite le lt eq round ofInt
 four-publishable = record {
   fourOrSix = inl refl;
   bounds = record {
-    x = record { lo = refl; hi = refl };
-    y = record { ends = record { lo = refl; hi = refl }; lowToHigh = refl };
-    z = tt;
-    m = refl;
+    numbers = record {
+      x = record { lo = refl; hi = refl };
+      y = record { ends = record { lo = refl; hi = refl }; lowToHigh = refl };
+      z = tt;
+      m = tt;
+    };
+    noM = refl;
   };
 }
 
@@ -80,10 +86,13 @@ filled = record { x = record { inner = record { lo = minusZero; hi = minusZero }
 filled-publishable : Publishable filled
 unfolding isFinite le lt eq round ofInt
 filled-publishable = record {
-  x = record { lo = refl; hi = refl };
-  y = record { ends = record { lo = refl; hi = refl }; lowToHigh = refl };
-  z = record { ends = record { lo = refl; hi = refl }; lowToHigh = refl };
-  m = refl;
+  numbers = record {
+    x = record { lo = refl; hi = refl };
+    y = record { ends = record { lo = refl; hi = refl }; lowToHigh = refl };
+    z = record { ends = record { lo = refl; hi = refl }; lowToHigh = refl };
+    m = tt;
+  };
+  noM = refl;
 }
 
 pub filled-same-numbers : boundingBox.EqualNumbers (fromGeoparquet (array (toGeoparquet filled)) .bounds) filled
@@ -102,10 +111,13 @@ unfolding boxOf isFinite le lt eq round ofInt
 signed-publishable = record {
   fourOrSix = inr refl;
   bounds = record {
-    x = record { lo = refl; hi = refl };
-    y = record { ends = record { lo = refl; hi = refl }; lowToHigh = refl };
-    z = record { ends = record { lo = refl; hi = refl }; lowToHigh = refl };
-    m = refl;
+    numbers = record {
+      x = record { lo = refl; hi = refl };
+      y = record { ends = record { lo = refl; hi = refl }; lowToHigh = refl };
+      z = record { ends = record { lo = refl; hi = refl }; lowToHigh = refl };
+      m = tt;
+    };
+    noM = refl;
   };
 }
 

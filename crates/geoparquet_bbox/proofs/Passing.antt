@@ -10,14 +10,16 @@ use lib.ListN.{length}
 use lib.Ieee.{Float, lt, le}
 use borrow.Author.Tests.{eqb-true, eq-eqb, not-true}
 use Rattle.sedona_geometry.specs.BoundingBox.{numbered}
+use Rattle.sedona_geometry.specs.BoundingBox as boundingBox
 use Rattle.sedona_geometry.specs.declared.interval.Interval.{Interval}
 use Rattle.sedona_geometry.specs.declared.bounding_box.Dimension.{Dimension}
 use Rattle.sedona_geometry.specs.declared.bounding_box.Dimension.the-variants.{Missing, Known}
 use Rattle.sedona_geometry.specs.declared.bounding_box.BoundingBox.{BoundingBox}
 use Rattle.sedona_geometry.specs.declared.bounding_box.NumberedBox.{NumberedBox}
-use Rattle.sedona_geometry.proofs.Order.{holds, fails, is-true, is-false, le-of-not-lt, lt-not-le}
+use Rattle.sedona_geometry.proofs.Booleans.{holds, fails, is-true, is-false}
+use Rattle.sedona_geometry.proofs.Order.{le-of-not-lt, lt-not-le}
 use Rattle.geoparquet_bbox.specs.Error as error
-use Rattle.geoparquet_bbox.specs.Layout.{isFinite, areFinite, isRising, risesWhereKnown, isKnown, numbersRefusal, boxRefusal, arrayRefusal, boxOfFour, boxOfSix, boxOf, toGeoparquet, fromGeoparquet, Finite, Rising, RisingWhereKnown, Publishable, PublishableArray}
+use Rattle.geoparquet_bbox.specs.Layout.{isFinite, areFinite, isRising, risesWhereKnown, isKnown, numbersRefusal, boxRefusal, arrayRefusal, boxOfFour, boxOfSix, boxOf, toGeoparquet, fromGeoparquet, Finite, Rising, Publishable, PublishableArray}
 use Rattle.geoparquet_bbox.specs.declared.layout.NumberedArray.{NumberedArray}
 use Rattle.geoparquet_bbox.proofs.Finite.{finite-number}
 
@@ -46,7 +48,7 @@ is-rising i = (there, back)
         let l = is-false (lt (i .hi) (i .lo)) (λ h. lt-not-le (record { test = h }) (record { test = holds (r .lowToHigh) })) in
         both .1 (are-finite i .1 (r .ends), rw l)
 
-rises-where-known : (d : Dimension) → (risesWhereKnown d ≡ true) ↔ RisingWhereKnown d
+rises-where-known : (d : Dimension) → (risesWhereKnown d ≡ true) ↔ boundingBox.WhereKnown Rising d
 unfolding risesWhereKnown
 rises-where-known Missing = (λ e. tt, λ h. refl)
 rises-where-known (Known i) = is-rising i
@@ -66,12 +68,15 @@ numbers-pass b no-m =
     let all = and-eq-true-iff (x && y) z in
     let two = and-eq-true-iff x y in (
       λ e. let t = all .0 (pass .0 e) in record {
-        x = are-finite (b .x .inner) .0 (two .0 (t .0) .0);
-        y = is-rising (b .y) .0 (two .0 (t .0) .1);
-        z = rises-where-known (b .z) .0 (t .1);
-        m = no-m;
+        numbers = record {
+          x = are-finite (b .x .inner) .0 (two .0 (t .0) .0);
+          y = is-rising (b .y) .0 (two .0 (t .0) .1);
+          z = rises-where-known (b .z) .0 (t .1);
+          m = rw no-m tt;
+        };
+        noM = no-m;
       },
-      λ p. pass .1 (all .1 (two .1 (are-finite (b .x .inner) .1 (p .x), is-rising (b .y) .1 (p .y)), rises-where-known (b .z) .1 (p .z))),
+      λ p. pass .1 (all .1 (two .1 (are-finite (b .x .inner) .1 (p .numbers .x), is-rising (b .y) .1 (p .numbers .y)), rises-where-known (b .z) .1 (p .numbers .z))),
     )
 
 -- a known m refuses, and else the numbers do
@@ -95,7 +100,7 @@ to-number b = number-is (λ (a : NumberedArray). a .number) (boxRefusal b) refl 
 pub box-passes : (b : BoundingBox) → (toGeoparquet b .number ≡ 0) ↔ Publishable b
 box-passes b = (
   λ e. there (b .m) refl (sym (to-number b) ∙ e),
-  λ p. to-number b ∙ by-m b (p .m) ∙ numbers-pass b (p .m) .1 p,
+  λ p. to-number b ∙ by-m b (p .noM) ∙ numbers-pass b (p .noM) .1 p,
 )
   where
     there : (m : Dimension) → b .m ≡ m → boxRefusal b ≡ 0 → Publishable b

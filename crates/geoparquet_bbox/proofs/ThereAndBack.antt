@@ -13,7 +13,7 @@ use borrow.Author.Tests.{eq-eqb}
 use Rattle.sedona_geometry.specs.Float as float
 use Rattle.sedona_geometry.specs.Interval as interval
 use Rattle.sedona_geometry.specs.BoundingBox as boundingBox
-use Rattle.sedona_geometry.specs.BoundingBox.{Canonical, EqualWhereKnown, plusZeroWhereKnown, xyzm, plusZero, accepted, numbered}
+use Rattle.sedona_geometry.specs.BoundingBox.{WhereKnown, KnownAlike, Canonical, plusZeroWhereKnown, xyzm, plusZero, accepted, numbered}
 use Rattle.sedona_geometry.specs.declared.interval.Interval.{Interval}
 use Rattle.sedona_geometry.specs.declared.bounding_box.Dimension.{Dimension}
 use Rattle.sedona_geometry.specs.declared.bounding_box.Dimension.the-variants.{Missing, Known}
@@ -22,7 +22,7 @@ use Rattle.sedona_geometry.proofs.Keys.{plus-equal, plus-equal-interval}
 use Rattle.sedona_geometry.proofs.Order.{Number}
 use Rattle.sedona_geometry.proofs.PlusZero.{stays, twice, alike-plus, le-alike}
 use Rattle.sedona_geometry.proofs.Canonical.{stays-box, accepted-canonical, accepted-is}
-use Rattle.geoparquet_bbox.specs.Layout.{isFinite, lowsThenHighs, arrayOf, boxOf, given, array, boxRefusal, arrayRefusal, toGeoparquet, fromGeoparquet, Finite, Rising, RisingWhereKnown, Publishable, NoMinusZero, EqualNumbers}
+use Rattle.geoparquet_bbox.specs.Layout.{isFinite, lowsThenHighs, arrayOf, boxOf, given, array, boxRefusal, arrayRefusal, toGeoparquet, fromGeoparquet, Finite, Rising, Publishable, NoMinusZero, EqualNumbers}
 use Rattle.geoparquet_bbox.proofs.Canonical.{box-of-canonical}
 use Rattle.geoparquet_bbox.proofs.Finite.{finite-number, finite-alike}
 use Rattle.geoparquet_bbox.proofs.Passing.{to-number, from-number, box-passes, array-passes}
@@ -75,19 +75,27 @@ plus-finite {i} f = record { lo = finite-alike (alike-plus (i .lo)) ∙ f .lo; h
 plus-rising : {i : Interval} → Rising i → Rising (interval.plusZero i)
 plus-rising {i} r = record { ends = plus-finite (r .ends); lowToHigh = le-alike (alike-plus (i .lo)) (alike-plus (i .hi)) ∙ r .lowToHigh }
 
-plus-rising-where-known : (d : Dimension) → RisingWhereKnown d → RisingWhereKnown (plusZeroWhereKnown d)
+plus-rising-where-known : (d : Dimension) → WhereKnown Rising d → WhereKnown Rising (plusZeroWhereKnown d)
 plus-rising-where-known Missing r = tt
 plus-rising-where-known (Known i) r = plus-rising r
 
 plus-publishable : {b : BoundingBox} → Publishable b → Publishable (plusZero b)
-plus-publishable {b} p = record { x = plus-finite (p .x); y = plus-rising (p .y); z = plus-rising-where-known (b .z) (p .z); m = ap plusZeroWhereKnown (p .m) }
+plus-publishable {b} p = record {
+  numbers = record {
+    x = plus-finite (p .numbers .x);
+    y = plus-rising (p .numbers .y);
+    z = plus-rising-where-known (b .z) (p .numbers .z);
+    m = plus-rising-where-known (b .m) (p .numbers .m);
+  };
+  noM = ap plusZeroWhereKnown (p .noM);
+}
 
 -- ---- there and back
 -- A box that is not refused, turned into an array and back, is handed on.
 pub box-there-and-back : (b : BoundingBox) → toGeoparquet b .number ≡ 0 → fromGeoparquet (array (toGeoparquet b)) ≡ accepted b
 box-there-and-back b e =
     let p = box-passes b .0 e in
-    let same = box-of-array b (p .m) in
+    let same = box-of-array b (p .noM) in
     let passes = array-passes (arrayOf b) .1 (record { fourOrSix = array-given b .0; bounds = subst Publishable (sym same) (plus-publishable p) }) in
     rw (to-given b e, array-given b .1)
     (from-given (arrayOf b) passes ∙ ap accepted same ∙ accepted-is (accepted-canonical b))
@@ -105,21 +113,18 @@ array-there-and-back vs e =
 finite-ends : {i : Interval} → Finite i → interval.EqualNumbers (interval.plusZero i) i
 finite-ends {i} f = plus-equal-interval (finite-number (i .lo) (f .lo)) (finite-number (i .hi) (f .hi))
 
-rising-where-known : (d : Dimension) → RisingWhereKnown d → EqualWhereKnown (plusZeroWhereKnown d) d
+rising-where-known : (d : Dimension) → WhereKnown Rising d → KnownAlike interval.EqualNumbers (plusZeroWhereKnown d) d
 rising-where-known Missing r = tt
 rising-where-known (Known i) r = finite-ends (r .ends)
-
-missing-where-known : {d : Dimension} → d ≡ Missing → EqualWhereKnown (plusZeroWhereKnown d) d
-missing-where-known e = rw e tt
 
 pub box-same-numbers : (b : BoundingBox) → toGeoparquet b .number ≡ 0 → boundingBox.EqualNumbers (fromGeoparquet (array (toGeoparquet b)) .bounds) b
 box-same-numbers b e =
     let p = box-passes b .0 e in
     rw (box-there-and-back b e) (record {
-      x = finite-ends (p .x);
-      y = finite-ends (p .y .ends);
-      z = rising-where-known (b .z) (p .z);
-      m = missing-where-known {d = b .m} (p .m);
+      x = finite-ends (p .numbers .x);
+      y = finite-ends (p .numbers .y .ends);
+      z = rising-where-known (b .z) (p .numbers .z);
+      m = rising-where-known (b .m) (p .numbers .m);
     })
 
 -- a number of the box is finite where the array's is
@@ -129,15 +134,15 @@ of-plus v h = finite-number v (sym (finite-alike (alike-plus v)) ∙ h)
 equal-numbers : (vs : List Float) → (length vs ≡ 4) ⊎ (length vs ≡ 6) → Publishable (boxOf vs) → EqualNumbers (map float.plusZero vs) vs
 unfolding boxOf
 equal-numbers (a ∷ b ∷ c ∷ d ∷ []) l p =
-    let x = simp twice at (p .x) in
-    let y = simp twice at (p .y .ends) in (
+    let x = simp twice at (p .numbers .x) in
+    let y = simp twice at (p .numbers .y .ends) in (
       plus-equal (of-plus a (x .lo)),
       (plus-equal (of-plus b (y .lo)), (plus-equal (of-plus c (x .hi)), (plus-equal (of-plus d (y .hi)), tt))),
     )
 equal-numbers (a ∷ b ∷ c ∷ d ∷ e ∷ f ∷ []) l p =
-    let x = simp twice at (p .x) in
-    let y = simp twice at (p .y .ends) in
-    let z = simp twice at (p .z .ends) in (
+    let x = simp twice at (p .numbers .x) in
+    let y = simp twice at (p .numbers .y .ends) in
+    let z = simp twice at (p .numbers .z .ends) in (
       plus-equal (of-plus a (x .lo)),
       (
         plus-equal (of-plus b (y .lo)),

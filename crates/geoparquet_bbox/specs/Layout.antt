@@ -130,17 +130,10 @@ pub record Rising (i : Interval) : Type 0 where
   pub ends : Finite i
   pub lowToHigh : le (i .lo) (i .hi) ≡ true
 
--- The same, where it is known.
-abbrev pub RisingWhereKnown : Dimension → Type 0
-RisingWhereKnown Missing = Unit {0}
-RisingWhereKnown (Known i) = Rising i
-
 -- A box that both layouts hold: x finite, either way round; y finite and low to high; z too, where it is known; m missing.
 pub record Publishable (b : BoundingBox) : Type 0 where
-  pub x : Finite (b .x .inner)
-  pub y : Rising (b .y)
-  pub z : RisingWhereKnown (b .z)
-  pub m : b .m ≡ Missing
+  pub numbers : boundingBox.Every (λ x. Finite (x .inner)) Rising (boundingBox.WhereKnown Rising) b
+  pub noM : b .m ≡ Missing
 
 -- An array that both layouts hold: four numbers or six, and the box that they are.
 pub record PublishableArray (vs : List Float) : Type 0 where

@@ -11,7 +11,7 @@ use Rattle.sedona_geometry.specs.Float.{isMinusZero}
 use Rattle.sedona_geometry.specs.Interval as interval
 use Rattle.sedona_geometry.specs.WraparoundInterval as wraparound
 use Rattle.sedona_geometry.specs.BoundingBox as boundingBox
-use Rattle.sedona_geometry.specs.BoundingBox.{Canonical, CanonicalWhereKnown}
+use Rattle.sedona_geometry.specs.BoundingBox.{Canonical, WhereKnown}
 use Rattle.sedona_geometry.specs.declared.interval.Interval.{Interval}
 use Rattle.sedona_geometry.specs.declared.bounding_box.Dimension as Dimension
 use Rattle.sedona_geometry.specs.declared.bounding_box.Dimension.{Dimension}
@@ -21,6 +21,7 @@ use Rattle.sedona_geometry.proofs.Canonical.{CanonicalWhereSingle}
 use Rattle.sedona_geometry.proofs.Keys.{same-box}
 use Rattle.sedona_expr.specs.Error as error
 use Rattle.sedona_expr.specs.Statistics as statistics
+use Rattle.sedona_expr.specs.Tables as tables
 use Rattle.sedona_expr.specs.declared.statistics.Bbox as Bbox
 use Rattle.sedona_expr.specs.declared.statistics.Bbox.{Bbox}
 use Rattle.sedona_expr.specs.declared.statistics.GeoStatistics.{GeoStatistics}
@@ -66,12 +67,12 @@ module _ (a b : JohikapeInterval) (v : Float) where
   x-intersection = canonical.intersection-x-canonical (x a) (x b)
 
 -- ---- boxes: the eight doubles, with 0 for what is missing
-low-canonical : (d : Dimension) → CanonicalWhereKnown d → isMinusZero (box.low d) ≡ false
+low-canonical : (d : Dimension) → WhereKnown interval.Canonical d → isMinusZero (box.low d) ≡ false
 unfolding ofBits
 low-canonical Dimension.Missing c = refl
 low-canonical (Dimension.Known i) c = c .lo
 
-high-canonical : (d : Dimension) → CanonicalWhereKnown d → isMinusZero (box.high d) ≡ false
+high-canonical : (d : Dimension) → WhereKnown interval.Canonical d → isMinusZero (box.high d) ≡ false
 unfolding ofBits
 high-canonical Dimension.Missing c = refl
 high-canonical (Dimension.Known i) c = c .hi
@@ -110,7 +111,7 @@ expanded-canonical Bbox.Missing d = canonical.empty-box-canonical
 expanded-canonical (Bbox.Known a) d = canonical.accepted-canonical (boundingBox.expandBy a d)
 
 -- ---- records: the first eight doubles; the two lengths behind them are no intervals
-pub record-doubles-canonical : (s : GeoStatistics) → CanonicalRecord s → NoMinusZero (take 8 (rec.doubles s))
+pub record-doubles-canonical : (s : GeoStatistics) → CanonicalRecord s → NoMinusZero (take tables.ends (rec.doubles s))
 unfolding ofBits
 record-doubles-canonical s c = go (s .bbox) c
   where
@@ -120,7 +121,7 @@ record-doubles-canonical s c = go (s .bbox) c
     h : Float
     h = rec.extent (s .«total_envelope_height»)
 
-    go : (b : Bbox) → statistics.CanonicalWhereKnown b → NoMinusZero (take 8 (rec.boxDoubles b w h))
+    go : (b : Bbox) → statistics.CanonicalWhereKnown b → NoMinusZero (take tables.ends (rec.boxDoubles b w h))
     go Bbox.Missing c = (refl, (refl, (refl, (refl, (refl, (refl, (refl, (refl, tt))))))))
     go (Bbox.Known b) c = doubles-canonical c
 
@@ -128,7 +129,7 @@ pub merged-record-canonical : (p q : rec.Parts) → CanonicalRecord (rec.merged 
 unfolding rec.merged
 merged-record-canonical p q = go (rec.goodFlags (p .flags) && rec.goodFlags (q .flags))
   where
-    go : (good : Bool) → CanonicalRecord (cond good (statistics.mergeValue (rec.readParts p) (rec.readParts q)) (statistics.refused error.boxes) .rec)
+    go : (good : Bool) → CanonicalRecord (cond good (statistics.mergeValue (rec.readParts p) (rec.readParts q)) (statistics.refused error.badLists) .rec)
     go true = merge-value-canonical (rec.readParts p) (rec.readParts q)
     go false = tt
 

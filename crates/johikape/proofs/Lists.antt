@@ -11,11 +11,13 @@ use lib.Dec.{eqb}
 use lib.ListN.{length, getD, take, drop, length-drop}
 use lib.Seq.{take-length}
 use borrow.Author.Tests.{eq-eqb, ne-eqb, eqb-true}
+use Rattle.sedona_geometry.specs.Lists.{areAll}
 use Rattle.sedona_expr.specs.Error as error
 use Rattle.sedona_expr.specs.Statistics.{start, step, foldFrom, fold}
-use Rattle.sedona_expr.specs.Refusals.{all, when}
+use Rattle.sedona_expr.specs.Refusals.{refuseIf}
 use Rattle.sedona_expr.specs.declared.statistics.Folded.{Folded}
-use Rattle.johikape.specs.Records.{Lists, Fit, read, records, FoldedTo, goodFlags, listsRefusal}
+use Rattle.johikape.specs.Within.{Fit, FoldedTo}
+use Rattle.johikape.specs.Records.{width, Lists, read, records, goodFlags, listsRefusal}
 
 -- ---- k elements for each of f
 module _ (k d f : ℕ) (p : 0 < k) where
@@ -35,10 +37,10 @@ take-rest xs d = ap (λ (n : ℕ). take n (drop d xs)) (sym (length-drop d xs)) 
 -- ---- lists that pass fit
 pub lists-pass : (l : Lists) (n : ℕ) → n ≡ listsRefusal l → n ≡ 0 → Fit l
 unfolding listsRefusal
-lists-pass l n is e = go (eqb (length (l .doubles)) (length (l .flags) * 10)) (eqb (length (l .totals)) (length (l .flags) * 7)) (eqb (length (l .types)) (length (l .flags))) (all goodFlags (l .flags)) refl refl refl (sym is ∙ e)
+lists-pass l n is e = go (eqb (length (l .doubles)) (length (l .flags) * width)) (eqb (length (l .totals)) (length (l .flags) * 7)) (eqb (length (l .types)) (length (l .flags))) (areAll goodFlags (l .flags)) refl refl refl (sym is ∙ e)
   where
-    go : (a b c d : Bool) → eqb (length (l .doubles)) (length (l .flags) * 10) ≡ a → eqb (length (l .totals)) (length (l .flags) * 7) ≡ b
-        → eqb (length (l .types)) (length (l .flags)) ≡ c → when (not a || not b || not c || not d) error.boxes ≡ 0 → Fit l
+    go : (a b c d : Bool) → eqb (length (l .doubles)) (length (l .flags) * width) ≡ a → eqb (length (l .totals)) (length (l .flags) * 7) ≡ b
+        → eqb (length (l .types)) (length (l .flags)) ≡ c → refuseIf (not a || not b || not c || not d) error.badLists ≡ 0 → Fit l
     go true true true d p q r z = record { doubles = eqb-true _ _ p; totals = eqb-true _ _ q; types = eqb-true _ _ r }
     go false b c d p q r z = absurd (omega arith)
     go true false c d p q r z = absurd (omega arith)
@@ -46,7 +48,7 @@ lists-pass l n is e = go (eqb (length (l .doubles)) (length (l .flags) * 10)) (e
 
 -- what a record's place asks of them
 pub place-fits : (l : Lists) (i : ℕ) → Fit l → i < length (l .flags)
-    → (10 * i + 10 ≤ length (l .doubles)) × ((7 * i + 7 ≤ length (l .totals)) × (i < length (l .types)))
+    → (width * i + width ≤ length (l .doubles)) × ((7 * i + 7 ≤ length (l .totals)) × (i < length (l .types)))
 place-fits l i F h = (omega (arith, F .doubles), (omega (arith, F .totals), omega (arith, F .types)))
 
 -- ---- the fold: of none, one record on, of all
@@ -54,7 +56,7 @@ pub folded-none : (l : Lists) → FoldedTo l start 0
 folded-none l = record { place = omega arith; rest = rw (sub-zero (length (l .flags))) }
 
 pub folded-next : (l : Lists) (f : Folded) (i : ℕ) {k : ℕ} → i < length (l .flags) → getD (l .flags) i 0 ≡ k → FoldedTo l f i
-    → FoldedTo l (step f (read (drop (10 * i) (l .doubles)) (drop (7 * i) (l .totals)) (getD (l .types) i 0) k)) (i + 1)
+    → FoldedTo l (step f (read (drop (width * i) (l .doubles)) (drop (7 * i) (l .totals)) (getD (l .types) i 0) k)) (i + 1)
 unfolding foldFrom
 folded-next l f i h e F = record { place = omega arith; rest = rw (← e, add-one i) (rw more at (F .rest)) }
   where

@@ -10,19 +10,20 @@ use lib.Dec.{eqb, ltb}
 use lib.IntN.{ℤ, pos}
 use lib.ListN.{length, getD, drop, drop-of-length-le}
 use lib.Seq.{drop-cons}
+use Rattle.sedona_geometry.specs.Lists.{areAll}
 use Rattle.sedona_expr.specs.Error as error
-use Rattle.sedona_expr.specs.Refusals.{all, when}
+use Rattle.sedona_expr.specs.Refusals.{refuseIf}
 use Rattle.sedona_expr.specs.declared.statistics.Total.{Total}
-use Rattle.scan_tariff.specs.Tariff.{withSize, withSizes}
+use Rattle.scan_tariff.specs.Within.{withSize, withSizes}
 use Rattle.johikape.specs.Records.{totalOf}
 use Rattle.johikape.specs.Tariff.{sizes, sizesRefusal}
 
 -- ---- lists that pass fit
 pub sizes-pass : (zs : List ℤ) (ks : List ℕ) (n : ℕ) → n ≡ sizesRefusal zs ks → n ≡ 0 → length zs ≡ length ks
 unfolding sizesRefusal
-sizes-pass zs ks n is e = go (eqb (length zs) (length ks)) (all (λ b. ltb b 2) ks) refl (sym is ∙ e)
+sizes-pass zs ks n is e = go (eqb (length zs) (length ks)) (areAll (λ b. ltb b 2) ks) refl (sym is ∙ e)
   where
-    go : (a b : Bool) → eqb (length zs) (length ks) ≡ a → when (not a || not b) error.boxes ≡ 0 → length zs ≡ length ks
+    go : (a b : Bool) → eqb (length zs) (length ks) ≡ a → refuseIf (not a || not b) error.badLists ≡ 0 → length zs ≡ length ks
     go true b p z = eqb-true _ _ p
     go false b p z = absurd (omega arith)
 

@@ -1,8 +1,8 @@
 -- How a box crosses: as eight doubles, low and high of x, y, z, m, and a flag: 1 box, 2 z known, 4 m known. 0 stands for the ends of what is missing.
 use mathlib.Core.Path.{_≡_}
-use mathlib.Core.Bool.{Bool, true, false, cond}
+use mathlib.Core.Bool.{Bool, false, cond}
 use mathlib.Core.List.{List, [], _∷_}
-use Prim.Native.Nat.{ℕ, _+_, _*_}
+use Prim.Native.Nat.{ℕ, _+_}
 use lib.Dec.{eqb}
 use lib.Ieee.{Float, binary64, ofBits}
 use Rattle.sedona_geometry.specs.BoundingBox as boundingBox
@@ -46,26 +46,32 @@ flag b = 1 + known (b .z) 2 + known (b .m) 4
 -- ---- what a call answers, and what it leaves
 
 -- What is new where the number is 0, and else what was there.
-unfoldable pub leaves : {A : Type 0} → ℕ → A → A → A
-leaves n new old = cond (eqb n 0) new old
+unfoldable pub unlessRefused : {A : Type 0} → ℕ → A → A → A
+unlessRefused n new old = cond (eqb n 0) new old
 
 -- The number is answered, and the box left where it is 0: `ds` and `f` become `es` and `g`.
 abbrev pub Gives : NumberedBox → ℕ → List Float → List Float → ℕ → ℕ → Type 0
-Gives a r ds es f g = (r ≡ a .number) × ((es ≡ leaves (a .number) (doubles (a .bounds)) ds) × (g ≡ leaves (a .number) (flag (a .bounds)) f))
+Gives a r ds es f g = (r ≡ a .number) × ((es ≡ unlessRefused (a .number) (doubles (a .bounds)) ds) × (g ≡ unlessRefused (a .number) (flag (a .bounds)) f))
 
 abbrev pub yes : Bool → ℕ
 yes b = cond b 1 0
 
 -- A test of two boxes: 0 or 1; or 8, where a flag is bad.
 unfoldable pub test : (BoundingBox → BoundingBox → Bool) → Bbox → Bbox → ℕ
-test f Bbox.Missing b = error.boxes
-test f (Bbox.Known a) Bbox.Missing = error.boxes
+test f Bbox.Missing b = error.badLists
+test f (Bbox.Known a) Bbox.Missing = error.badLists
 test f (Bbox.Known a) (Bbox.Known b) = yes (f a b)
+
+-- Both boxes are there, and this is so of them.
+abbrev pub HasBoth : (BoundingBox → BoundingBox → Type 0) → Bbox → Bbox → Type 0
+HasBoth R Bbox.Missing b = ⊥
+HasBoth R (Bbox.Known a) Bbox.Missing = ⊥
+HasBoth R (Bbox.Known a) (Bbox.Known b) = R a b
 
 -- A box made of two; or 8 alone, where a flag is bad.
 unfoldable pub join : (BoundingBox → BoundingBox → NumberedBox) → Bbox → Bbox → NumberedBox
-join f Bbox.Missing b = boundingBox.refused error.boxes
-join f (Bbox.Known a) Bbox.Missing = boundingBox.refused error.boxes
+join f Bbox.Missing b = boundingBox.refused error.badLists
+join f (Bbox.Known a) Bbox.Missing = boundingBox.refused error.badLists
 join f (Bbox.Known a) (Bbox.Known b) = f a b
 
 abbrev pub merged : Bbox → Bbox → NumberedBox
@@ -75,5 +81,5 @@ abbrev pub met : Bbox → Bbox → NumberedBox
 met a b = join boundingBox.intersection a b
 
 unfoldable pub expanded : Bbox → Float → NumberedBox
-expanded Bbox.Missing d = boundingBox.refused error.boxes
+expanded Bbox.Missing d = boundingBox.refused error.badLists
 expanded (Bbox.Known a) d = boundingBox.accepted (boundingBox.expandBy a d)

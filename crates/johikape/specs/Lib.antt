@@ -4,4 +4,5 @@ pub mod Intervals
 pub mod Layouts
 pub mod Records
 pub mod Tariff
+pub mod Within
 pub mod Wkb

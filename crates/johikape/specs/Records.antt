@@ -1,22 +1,24 @@
--- How a record crosses: as ten doubles (the eight of its box, the two lengths), seven totals, a type set, and flags: 1, 2, 4 of the box, 8 types,
--- 16 to 1,024 the totals, 2,048 and 4,096 the lengths. 0 stands for what is missing.
+-- How a record crosses: as ten doubles (the eight of its box, the two lengths), seven totals, a type set, and flags: 1, 2, 4 of the box, and behind
+-- them a bit each for the types (8), the totals (16 to 1,024) and the lengths (2,048 and 4,096). 0 stands for what is missing.
 use mathlib.Core.Path.{_≡_}
-use mathlib.Core.Bool.{Bool, true, not, _&&_, _||_, cond}
+use mathlib.Core.Bool.{Bool, true, false, not, _&&_, _||_, cond}
 use mathlib.Core.List.{List, [], _∷_}
-use Prim.Native.Nat.{ℕ, zero, suc, _+_, _-_, _*_, _/_, _%_, _≤_}
+use Prim.Native.Nat.{ℕ, zero, suc, _+_, _*_, _/_, _%_}
 use lib.Dec.{eqb, ltb}
 use lib.IntN.{ℤ, pos}
-use lib.ListN.{length, getD, take, drop}
+use lib.ListN.{length, getD, drop}
 use lib.Ieee.{Float, nan, binary64, ofBits}
+use Rattle.sedona_geometry.specs.Lists.{areAll}
 use Rattle.sedona_geometry.specs.Interval as interval
 use Rattle.sedona_geometry.specs.WraparoundInterval as wraparound
 use Rattle.sedona_geometry.specs.BoundingBox as boundingBox
+use Rattle.sedona_geometry.specs.Bits.{hasBit}
 use Rattle.sedona_geometry.specs.Types as set
 use Rattle.sedona_geometry.specs.declared.bounding_box.BoundingBox.{BoundingBox}
 use Rattle.sedona_expr.specs.Error as error
 use Rattle.sedona_expr.specs.Statistics as statistics
-use Rattle.sedona_expr.specs.Tables.{boxes, boxAt}
-use Rattle.sedona_expr.specs.Refusals.{goodFlag, all, orElse, when}
+use Rattle.sedona_expr.specs.Tables.{ends, flagLimit, boxes, boxAt}
+use Rattle.sedona_expr.specs.Refusals.{goodFlag, refuseIf}
 use Rattle.sedona_expr.specs.declared.statistics.Bbox as Bbox
 use Rattle.sedona_expr.specs.declared.statistics.Bbox.{Bbox}
 use Rattle.sedona_expr.specs.declared.statistics.GeometryTypes as GeometryTypes
@@ -26,15 +28,18 @@ use Rattle.sedona_expr.specs.declared.statistics.Total.{Total}
 use Rattle.sedona_expr.specs.declared.statistics.Extent as Extent
 use Rattle.sedona_expr.specs.declared.statistics.Extent.{Extent}
 use Rattle.sedona_expr.specs.declared.statistics.GeoStatistics.{GeoStatistics}
-use Rattle.sedona_expr.specs.declared.statistics.Folded.{Folded}
 use Rattle.sedona_expr.specs.declared.statistics.Merged.{Merged}
-use Rattle.johikape.specs.Boxes.{low, high, flag, leaves}
+use Rattle.johikape.specs.Boxes.{low, high, flag, unlessRefused}
 
 -- ---- from C
 
--- Whether the flags have a part.
+-- So many doubles a record: those of its box, and the two lengths.
+abbrev pub width : ℕ
+width = ends + 2
+
+-- Behind the box's flags there are ten more, one for each part: the flags have part k.
 abbrev pub has : ℕ → ℕ → Bool
-has flags part = eqb (flags / part % 2) 1
+has flags k = hasBit (flags / flagLimit) k
 
 abbrev pub typesOf : Bool → ℕ → GeometryTypes
 typesOf known n = cond known (GeometryTypes.Known (set.fromBits n)) GeometryTypes.Missing
@@ -47,22 +52,22 @@ extentOf known x = cond known (Extent.Known x) Extent.Missing
 
 unfoldable pub read : List Float → List ℤ → ℕ → ℕ → GeoStatistics
 read ds ts n f = record {
-  bbox = boxAt (boxes ds (f % 8 ∷ [])) 0;
-  «geometry_types» = typesOf (has f 8) n;
-  «total_geometries» = totalOf (has f 16) (getD ts 0 (pos 0));
-  «total_size_bytes» = totalOf (has f 32) (getD ts 1 (pos 0));
-  «total_points» = totalOf (has f 64) (getD ts 2 (pos 0));
-  «puntal_count» = totalOf (has f 128) (getD ts 3 (pos 0));
-  «lineal_count» = totalOf (has f 256) (getD ts 4 (pos 0));
-  «polygonal_count» = totalOf (has f 512) (getD ts 5 (pos 0));
-  «collection_count» = totalOf (has f 1024) (getD ts 6 (pos 0));
-  «total_envelope_width» = extentOf (has f 2048) (getD ds 8 nan);
-  «total_envelope_height» = extentOf (has f 4096) (getD ds 9 nan);
+  bbox = boxAt (boxes ds (f % flagLimit ∷ [])) 0;
+  «geometry_types» = typesOf (has f 0) n;
+  «total_geometries» = totalOf (has f 1) (getD ts 0 (pos 0));
+  «total_size_bytes» = totalOf (has f 2) (getD ts 1 (pos 0));
+  «total_points» = totalOf (has f 3) (getD ts 2 (pos 0));
+  «puntal_count» = totalOf (has f 4) (getD ts 3 (pos 0));
+  «lineal_count» = totalOf (has f 5) (getD ts 4 (pos 0));
+  «polygonal_count» = totalOf (has f 6) (getD ts 5 (pos 0));
+  «collection_count» = totalOf (has f 7) (getD ts 6 (pos 0));
+  «total_envelope_width» = extentOf (has f 8) (getD ds ends nan);
+  «total_envelope_height» = extentOf (has f 9) (getD ds (ends + 1) nan);
 }
 
--- The flags of the box are 0, 1, 3, 5 or 7, and there are no others than these.
+-- The flags of the box are good, and there are no others than these.
 unfoldable pub goodFlags : ℕ → Bool
-goodFlags f = ltb f 8192 && goodFlag true (f % 8)
+goodFlags f = ltb f (flagLimit * 1024) && goodFlag true (f % flagLimit)
 
 -- ---- to C
 
@@ -83,22 +88,23 @@ abbrev pub types : GeometryTypes → ℕ
 types GeometryTypes.Missing = 0
 types (GeometryTypes.Known s) = set.bits s
 
--- A flag, where the part is known.
+-- The flags of a box, and 0 for none.
 abbrev pub bboxFlag : Bbox → ℕ
 bboxFlag Bbox.Missing = 0
 bboxFlag (Bbox.Known b) = flag b
 
-abbrev pub typesFlag : GeometryTypes → ℕ → ℕ
-typesFlag GeometryTypes.Missing n = 0
-typesFlag (GeometryTypes.Known s) n = n
+-- Which parts are known.
+abbrev pub knowsTypes : GeometryTypes → Bool
+knowsTypes GeometryTypes.Missing = false
+knowsTypes (GeometryTypes.Known s) = true
 
-abbrev pub totalFlag : Total → ℕ → ℕ
-totalFlag Total.Missing n = 0
-totalFlag (Total.Known z) n = n
+abbrev pub knowsTotal : Total → Bool
+knowsTotal Total.Missing = false
+knowsTotal (Total.Known z) = true
 
-abbrev pub extentFlag : Extent → ℕ → ℕ
-extentFlag Extent.Missing n = 0
-extentFlag (Extent.Known x) n = n
+abbrev pub knowsExtent : Extent → Bool
+knowsExtent Extent.Missing = false
+knowsExtent (Extent.Known x) = true
 
 -- The doubles of the box, and the two lengths.
 abbrev pub boxDoubles : Bbox → Float → Float → List Float
@@ -114,13 +120,20 @@ totals s =
     total (s .«total_geometries») ∷ total (s .«total_size_bytes») ∷ total (s .«total_points») ∷ total (s .«puntal_count»)
     ∷ total (s .«lineal_count») ∷ total (s .«polygonal_count») ∷ total (s .«collection_count») ∷ []
 
-unfoldable pub totalsFlags : GeoStatistics → ℕ
-totalsFlags s =
-    totalFlag (s .«total_geometries») 16 + totalFlag (s .«total_size_bytes») 32 + totalFlag (s .«total_points») 64 + totalFlag (s .«puntal_count») 128
-    + totalFlag (s .«lineal_count») 256 + totalFlag (s .«polygonal_count») 512 + totalFlag (s .«collection_count») 1024
+-- The types, the seven totals and the two lengths.
+abbrev pub known : GeoStatistics → List Bool
+known s =
+    knowsTypes (s .«geometry_types») ∷ knowsTotal (s .«total_geometries») ∷ knowsTotal (s .«total_size_bytes») ∷ knowsTotal (s .«total_points»)
+    ∷ knowsTotal (s .«puntal_count») ∷ knowsTotal (s .«lineal_count») ∷ knowsTotal (s .«polygonal_count») ∷ knowsTotal (s .«collection_count»)
+    ∷ knowsExtent (s .«total_envelope_width») ∷ knowsExtent (s .«total_envelope_height») ∷ []
+
+-- The number whose bits these are, from the lowest on.
+abbrev pub ofBools : List Bool → ℕ
+ofBools [] = 0
+ofBools (b ∷ bs) = cond b 1 0 + 2 * ofBools bs
 
 unfoldable pub flags : GeoStatistics → ℕ
-flags s = bboxFlag (s .bbox) + typesFlag (s .«geometry_types») 8 + totalsFlags s + extentFlag (s .«total_envelope_width») 2048 + extentFlag (s .«total_envelope_height») 4096
+flags s = bboxFlag (s .bbox) + flagLimit * ofBools (known s)
 
 -- ---- what a call answers, and what it leaves
 
@@ -139,14 +152,14 @@ written s = parts (doubles s) (totals s) (types (s .«geometry_types»)) (flags 
 
 -- The number is answered, and the record left where it is 0.
 abbrev pub Gives : Merged → ℕ → Parts → Parts → Type 0
-Gives a r old new = (r ≡ a .number) × (new ≡ leaves (a .number) (written (a .rec)) old)
+Gives a r old new = (r ≡ a .number) × (new ≡ unlessRefused (a .number) (written (a .rec)) old)
 
 abbrev pub readParts : Parts → GeoStatistics
 readParts p = read (p .doubles) (p .totals) (p .types) (p .flags)
 
 -- `merge_value` of the two; or 8 alone, where flags are bad.
 unfoldable pub merged : Parts → Parts → Merged
-merged p q = cond (goodFlags (p .flags) && goodFlags (q .flags)) (statistics.mergeValue (readParts p) (readParts q)) (statistics.refused error.boxes)
+merged p q = cond (goodFlags (p .flags) && goodFlags (q .flags)) (statistics.mergeValue (readParts p) (readParts q)) (statistics.refused error.badLists)
 
 -- ---- lists
 
@@ -163,22 +176,16 @@ lists ds ts ns fs = record { doubles = ds; totals = ts; types = ns; flags = fs }
 -- 8: the lengths do not fit, or flags are bad.
 unfoldable pub listsRefusal : Lists → ℕ
 listsRefusal l =
-    when
-    (not (eqb (length (l .doubles)) (length (l .flags) * 10))
+    refuseIf
+    (not (eqb (length (l .doubles)) (length (l .flags) * width))
     || not (eqb (length (l .totals)) (length (l .flags) * 7))
     || not (eqb (length (l .types)) (length (l .flags)))
-    || not (all goodFlags (l .flags)))
-    error.boxes
-
--- The lengths fit: what the fold asks of lists that are not refused.
-pub record Fit (l : Lists) : Type 0 where
-  pub doubles : length (l .doubles) ≡ length (l .flags) * 10
-  pub totals : length (l .totals) ≡ length (l .flags) * 7
-  pub types : length (l .types) ≡ length (l .flags)
+    || not (areAll goodFlags (l .flags)))
+    error.badLists
 
 -- The record at a place.
 abbrev pub at : Lists → ℕ → GeoStatistics
-at l i = read (drop (10 * i) (l .doubles)) (drop (7 * i) (l .totals)) (getD (l .types) i 0) (getD (l .flags) i 0)
+at l i = read (drop (width * i) (l .doubles)) (drop (7 * i) (l .totals)) (getD (l .types) i 0) (getD (l .flags) i 0)
 
 -- So many records from a place on.
 abbrev pub from : Lists → ℕ → ℕ → List GeoStatistics
@@ -187,11 +194,6 @@ from l i (suc n) = at l i ∷ from l (suc i) n
 
 abbrev pub records : Lists → List GeoStatistics
 records l = from l 0 (length (l .flags))
-
--- A fold of the first i records: with the rest folded in, it is that of all.
-pub record FoldedTo (l : Lists) (f : Folded) (i : ℕ) : Type 0 where
-  pub place : i ≤ length (l .flags)
-  pub rest : statistics.foldFrom f (from l i (length (l .flags) - i)) ≡ statistics.fold (records l)
 
 -- The fold of the records; or 8 alone.
 unfoldable pub folded : Lists → Merged

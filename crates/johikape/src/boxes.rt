@@ -3,14 +3,15 @@ ghost use mathlib.Core.Path.{_≡_};
 ghost use Prim.Native.Nat.{_≤_};
 ghost use Rattle.sedona_geometry.specs.BoundingBox as boundingBox;
 ghost use Rattle.johikape.specs.Boxes as boxes;
-use sedona_expr::error::BOXES;
+use sedona_expr::error::BAD_LISTS;
 use sedona_expr::refusals::is_good_flag;
 use sedona_expr::statistics::Bbox;
+use sedona_expr::tables::ENDS;
 use sedona_expr::tables::box_at;
 use sedona_geometry::bounding_box::Dimension;
 use sedona_geometry::bounding_box::NumberedBox;
 
-pub type Ends = [f64; 8];
+pub type Ends = [f64; ENDS];
 
 const NO: u32 = 0;
 
@@ -77,10 +78,10 @@ pub extern "C" fn johikape_box_intersects(a: &Ends, a_flag: u8, b: &Ends, b_flag
     ensures { λ r. ⌜ r ≡ boxes.test boundingBox.intersects (boxes.read (now (a .entry)) «a_flag») (boxes.read (now (b .entry)) «b_flag») ⌝ }
 {
     let Bbox::Known(first) = read(a, a_flag) else {
-        return BOXES;
+        return BAD_LISTS;
     };
     let Bbox::Known(second) = read(b, b_flag) else {
-        return BOXES;
+        return BAD_LISTS;
     };
     if first.intersects(second) {
         return YES;
@@ -94,10 +95,10 @@ pub extern "C" fn johikape_box_contains(a: &Ends, a_flag: u8, b: &Ends, b_flag: 
     ensures { λ r. ⌜ r ≡ boxes.test boundingBox.contains (boxes.read (now (a .entry)) «a_flag») (boxes.read (now (b .entry)) «b_flag») ⌝ }
 {
     let Bbox::Known(first) = read(a, a_flag) else {
-        return BOXES;
+        return BAD_LISTS;
     };
     let Bbox::Known(second) = read(b, b_flag) else {
-        return BOXES;
+        return BAD_LISTS;
     };
     if first.contains(second) {
         return YES;
@@ -110,10 +111,10 @@ fn merged(a: Bbox, b: Bbox) -> NumberedBox
     ensures { λ r. ⌜ r ≡ boxes.merged a b ⌝ }
 {
     let Bbox::Known(first) = a else {
-        return NumberedBox::refused(BOXES);
+        return NumberedBox::refused(BAD_LISTS);
     };
     let Bbox::Known(second) = b else {
-        return NumberedBox::refused(BOXES);
+        return NumberedBox::refused(BAD_LISTS);
     };
     NumberedBox::accepted(first.merge_box(second))
 }
@@ -133,10 +134,10 @@ fn met(a: Bbox, b: Bbox) -> NumberedBox
     ensures { λ r. ⌜ r ≡ boxes.met a b ⌝ }
 {
     let Bbox::Known(first) = a else {
-        return NumberedBox::refused(BOXES);
+        return NumberedBox::refused(BAD_LISTS);
     };
     let Bbox::Known(second) = b else {
-        return NumberedBox::refused(BOXES);
+        return NumberedBox::refused(BAD_LISTS);
     };
     first.intersection(second)
 }
@@ -161,7 +162,7 @@ fn expanded(a: Bbox, distance: f64) -> NumberedBox
     ensures { λ r. ⌜ r ≡ boxes.expanded a distance ⌝ }
 {
     let Bbox::Known(first) = a else {
-        return NumberedBox::refused(BOXES);
+        return NumberedBox::refused(BAD_LISTS);
     };
     NumberedBox::accepted(first.expand_by(distance))
 }

@@ -9,7 +9,7 @@ use crate::boxes::read;
 use geoparquet_bbox::layout::NumberedArray;
 use geoparquet_bbox::layout::from_geoparquet;
 use geoparquet_bbox::layout::to_geoparquet;
-use sedona_expr::error::BOXES;
+use sedona_expr::error::BAD_LISTS;
 use sedona_expr::statistics::Bbox;
 
 // Room for an array.
@@ -20,7 +20,7 @@ fn laid_out(a: Bbox) -> NumberedArray
     ensures { λ r. ⌜ r ≡ layouts.laidOut a ⌝ }
 {
     let Bbox::Known(bounds) = a else {
-        return NumberedArray::refused(BOXES);
+        return NumberedArray::refused(BAD_LISTS);
     };
     to_geoparquet(bounds)
 }

@@ -1,19 +1,20 @@
 // Records as ten doubles (the eight of the box, the two lengths), seven totals, a type set, and flags:
-// 1, 2, 4 of the box, 8 types, 16 to 1,024 the totals, 2,048 and 4,096 the lengths.
+// 1, 2, 4 of the box, and behind them a bit each for the types (8), the totals (16 to 1,024) and the
+// lengths (2,048 and 4,096).
 ghost use mathlib.Core.Path.{_≡_};
-ghost use mathlib.Core.List.{_∷_, []};
+ghost use mathlib.Core.Bool.{cond};
 ghost use Prim.Native.Nat.{_≤_, _<_, _+_, _*_};
 ghost use lib.IntN.{pos};
 ghost use lib.ListN.{length, drop, getD};
 ghost use lib.Ieee.{nan};
-ghost use Rattle.sedona_expr.specs.Error as error;
 ghost use Rattle.sedona_expr.specs.Statistics as statistics;
-ghost use Rattle.sedona_expr.specs.Refusals as refusals;
+ghost use Rattle.sedona_geometry.specs.Lists as lists;
 ghost use Rattle.johikape.specs.Records as records;
+ghost use Rattle.johikape.specs.Within as within;
 use crate::boxes::high;
 use crate::boxes::known;
 use crate::boxes::low;
-use sedona_expr::error::BOXES;
+use sedona_expr::error::BAD_LISTS;
 use sedona_expr::refusals::is_good_flag;
 use sedona_expr::statistics::Bbox;
 use sedona_expr::statistics::Extent;
@@ -22,17 +23,28 @@ use sedona_expr::statistics::GeoStatistics;
 use sedona_expr::statistics::GeometryTypes;
 use sedona_expr::statistics::Merged;
 use sedona_expr::statistics::Total;
+use sedona_expr::tables::ENDS;
+use sedona_expr::tables::FLAG_LIMIT;
 use sedona_expr::tables::box_at;
 use sedona_geometry::bounding_box::BoundingBox;
 use sedona_geometry::interval::Interval;
 use sedona_geometry::interval::WraparoundInterval;
 use sedona_geometry::types::GeometryTypeAndDimensionsSet;
 
-pub type Doubles = [f64; 10];
+// Doubles of a record: those of its box, and the two lengths.
+const WIDTH: usize = ENDS + 2;
+
+pub type Doubles = [f64; WIDTH];
 
 pub type Totals = [i64; 7];
 
 // ---- from C
+
+// Flags behind the box's are counted from this on.
+const BASE: u32 = FLAG_LIMIT as u32;
+
+// All flags are below this: there are ten parts beside the box.
+const ALL: u32 = BASE * 1024;
 
 fn types_of(known: bool, bits: u32) -> GeometryTypes
     ensures { λ r. ⌜ r ≡ records.typesOf known bits ⌝ }
@@ -67,32 +79,33 @@ fn extent_at(known: bool, doubles: &[f64], at: usize) -> Extent
 
 // The record of ten doubles, seven totals, a type set and flags.
 pub(crate) fn read(doubles: &[f64], totals: &[i64], types: u32, flags: u32) -> GeoStatistics
-    requires { ⌜ (10 ≤ length (now doubles)) × (7 ≤ length (now totals)) ⌝ }
+    requires { ⌜ (records.width ≤ length (now doubles)) × (7 ≤ length (now totals)) ⌝ }
     ensures { λ r. ⌜ r ≡ records.read (now (doubles .entry)) (now (totals .entry)) types flags ⌝ }
 {
+    let parts = flags / BASE;
     GeoStatistics {
-        bbox: box_at(doubles, &[(flags % 8) as u8], 0),
-        geometry_types: types_of(flags / 8 % 2 == 1, types),
-        total_geometries: total_at(flags / 16 % 2 == 1, totals, 0),
-        total_size_bytes: total_at(flags / 32 % 2 == 1, totals, 1),
-        total_points: total_at(flags / 64 % 2 == 1, totals, 2),
-        puntal_count: total_at(flags / 128 % 2 == 1, totals, 3),
-        lineal_count: total_at(flags / 256 % 2 == 1, totals, 4),
-        polygonal_count: total_at(flags / 512 % 2 == 1, totals, 5),
-        collection_count: total_at(flags / 1024 % 2 == 1, totals, 6),
-        total_envelope_width: extent_at(flags / 2048 % 2 == 1, doubles, 8),
-        total_envelope_height: extent_at(flags / 4096 % 2 == 1, doubles, 9),
+        bbox: box_at(doubles, &[(flags % BASE) as u8], 0),
+        geometry_types: types_of(parts / 1 % 2 == 1, types),
+        total_geometries: total_at(parts / 2 % 2 == 1, totals, 0),
+        total_size_bytes: total_at(parts / 4 % 2 == 1, totals, 1),
+        total_points: total_at(parts / 8 % 2 == 1, totals, 2),
+        puntal_count: total_at(parts / 16 % 2 == 1, totals, 3),
+        lineal_count: total_at(parts / 32 % 2 == 1, totals, 4),
+        polygonal_count: total_at(parts / 64 % 2 == 1, totals, 5),
+        collection_count: total_at(parts / 128 % 2 == 1, totals, 6),
+        total_envelope_width: extent_at(parts / 256 % 2 == 1, doubles, ENDS),
+        total_envelope_height: extent_at(parts / 512 % 2 == 1, doubles, ENDS + 1),
     }
 }
 
-// No flags but those above, and of the box 0, 1, 3, 5 or 7.
+// No flags but those above, and good ones of the box.
 pub(crate) fn are_good(flags: u32) -> bool
     ensures { λ r. ⌜ r ≡ records.goodFlags flags ⌝ }
 {
-    if flags >= 8192 {
+    if flags >= ALL {
         return false;
     }
-    is_good_flag(true, (flags % 8) as u8)
+    is_good_flag(true, (flags % BASE) as u8)
 }
 
 // ---- to C
@@ -153,7 +166,7 @@ fn bbox_flag(b: Bbox) -> u32
 
 // A flag, where the part is known.
 fn types_flag(t: GeometryTypes, flag: u32) -> u32
-    ensures { λ r. ⌜ (r ≡ records.typesFlag t flag) × (r ≤ flag) ⌝ }
+    ensures { λ r. ⌜ (r ≡ cond (records.knowsTypes t) flag 0) × (r ≤ flag) ⌝ }
 {
     match t {
         GeometryTypes::Missing => 0,
@@ -162,7 +175,7 @@ fn types_flag(t: GeometryTypes, flag: u32) -> u32
 }
 
 fn total_flag(t: Total, flag: u32) -> u32
-    ensures { λ r. ⌜ (r ≡ records.totalFlag t flag) × (r ≤ flag) ⌝ }
+    ensures { λ r. ⌜ (r ≡ cond (records.knowsTotal t) flag 0) × (r ≤ flag) ⌝ }
 {
     match t {
         Total::Missing => 0,
@@ -171,7 +184,7 @@ fn total_flag(t: Total, flag: u32) -> u32
 }
 
 fn extent_flag(e: Extent, flag: u32) -> u32
-    ensures { λ r. ⌜ (r ≡ records.extentFlag e flag) × (r ≤ flag) ⌝ }
+    ensures { λ r. ⌜ (r ≡ cond (records.knowsExtent e) flag 0) × (r ≤ flag) ⌝ }
 {
     match e {
         Extent::Missing => 0,
@@ -179,9 +192,11 @@ fn extent_flag(e: Extent, flag: u32) -> u32
     }
 }
 
-fn totals_flags(r: GeoStatistics) -> u32
-    ensures { λ n. ⌜ (n ≡ records.totalsFlags r) × (n ≤ 2032) ⌝ }
+// The flags of the ten parts beside the box, counted from 1 on.
+fn parts_of(r: GeoStatistics) -> u32
+    ensures { λ n. ⌜ (n ≡ records.ofBools (records.known r)) × (n ≤ 1023) ⌝ }
 {
+    let t = r.geometry_types;
     let t0 = r.total_geometries;
     let t1 = r.total_size_bytes;
     let t2 = r.total_points;
@@ -189,27 +204,25 @@ fn totals_flags(r: GeoStatistics) -> u32
     let t4 = r.lineal_count;
     let t5 = r.polygonal_count;
     let t6 = r.collection_count;
-    total_flag(t0, 16)
-        + total_flag(t1, 32)
-        + total_flag(t2, 64)
-        + total_flag(t3, 128)
-        + total_flag(t4, 256)
-        + total_flag(t5, 512)
-        + total_flag(t6, 1024)
+    let width = r.total_envelope_width;
+    let height = r.total_envelope_height;
+    types_flag(t, 1)
+        + total_flag(t0, 2)
+        + total_flag(t1, 4)
+        + total_flag(t2, 8)
+        + total_flag(t3, 16)
+        + total_flag(t4, 32)
+        + total_flag(t5, 64)
+        + total_flag(t6, 128)
+        + extent_flag(width, 256)
+        + extent_flag(height, 512)
 }
 
 fn flags_of(r: GeoStatistics) -> u32
     ensures { λ n. ⌜ n ≡ records.flags r ⌝ }
 {
     let b = r.bbox;
-    let t = r.geometry_types;
-    let width = r.total_envelope_width;
-    let height = r.total_envelope_height;
-    bbox_flag(b)
-        + types_flag(t, 8)
-        + totals_flags(r)
-        + extent_flag(width, 2048)
-        + extent_flag(height, 4096)
+    bbox_flag(b) + BASE * parts_of(r)
 }
 
 fn put_doubles(doubles: &mut Doubles, r: GeoStatistics)
@@ -297,10 +310,10 @@ pub extern "C" fn johikape_merge(
     ensures { λ r. ⌜ records.Gives (records.merged (records.parts (now (doubles .entry)) (now (totals .entry)) (now (types .entry)) (now (flags .entry))) (records.parts (now («other_doubles» .entry)) (now («other_totals» .entry)) «other_types» «other_flags»)) r (records.parts (now (doubles .entry)) (now (totals .entry)) (now (types .entry)) (now (flags .entry))) (records.parts (now (doubles .exit)) (now (totals .exit)) (now (types .exit)) (now (flags .exit))) ⌝ }
 {
     if !are_good(*flags) {
-        return BOXES;
+        return BAD_LISTS;
     }
     if !are_good(other_flags) {
-        return BOXES;
+        return BAD_LISTS;
     }
     let a = read(doubles, totals, *types, *flags);
     let b = read(other_doubles, other_totals, other_types, other_flags);
@@ -308,7 +321,7 @@ pub extern "C" fn johikape_merge(
 }
 
 fn are_all_good(flags: &[u32]) -> bool
-    ensures { λ r. ⌜ r ≡ refusals.all records.goodFlags (now (flags .entry)) ⌝ }
+    ensures { λ r. ⌜ r ≡ lists.areAll records.goodFlags (now (flags .entry)) ⌝ }
 {
     let mut good = true;
     let mut i = 0;
@@ -323,36 +336,36 @@ fn are_all_good(flags: &[u32]) -> bool
 fn lists_refusal(doubles: &[f64], totals: &[i64], types: &[u32], flags: &[u32]) -> u32
     ensures { λ r. ⌜ r ≡ records.listsRefusal (records.lists (now (doubles .entry)) (now (totals .entry)) (now (types .entry)) (now (flags .entry))) ⌝ }
 {
-    if doubles.len() % 10 != 0 {
-        return BOXES;
+    if doubles.len() % WIDTH != 0 {
+        return BAD_LISTS;
     }
-    if doubles.len() / 10 != flags.len() {
-        return BOXES;
+    if doubles.len() / WIDTH != flags.len() {
+        return BAD_LISTS;
     }
     if totals.len() % 7 != 0 {
-        return BOXES;
+        return BAD_LISTS;
     }
     if totals.len() / 7 != flags.len() {
-        return BOXES;
+        return BAD_LISTS;
     }
     if types.len() != flags.len() {
-        return BOXES;
+        return BAD_LISTS;
     }
-    if are_all_good(flags) { 0 } else { BOXES }
+    if are_all_good(flags) { 0 } else { BAD_LISTS }
 }
 
 // The record at a place, of which the flags are handed over.
 fn record_at(doubles: &[f64], totals: &[i64], types: &[u32], i: usize, flags: u32) -> GeoStatistics
-    requires { ⌜ (10 * i + 10 ≤ length (now doubles)) × ((7 * i + 7 ≤ length (now totals)) × (i < length (now types))) ⌝ }
-    ensures { λ r. ⌜ r ≡ records.read (drop (10 * i) (now (doubles .entry))) (drop (7 * i) (now (totals .entry))) (getD (now (types .entry)) i 0) flags ⌝ }
+    requires { ⌜ (records.width * i + records.width ≤ length (now doubles)) × ((7 * i + 7 ≤ length (now totals)) × (i < length (now types))) ⌝ }
+    ensures { λ r. ⌜ r ≡ records.read (drop (records.width * i) (now (doubles .entry))) (drop (7 * i) (now (totals .entry))) (getD (now (types .entry)) i 0) flags ⌝ }
 {
-    let d = 10 * i;
+    let d = WIDTH * i;
     let t = 7 * i;
     read(&doubles[d..], &totals[t..], types[i], flags)
 }
 
 // The flags of a record of which every part is known.
-const WHOLE: u32 = 8191;
+const WHOLE: u32 = ALL - 1;
 
 // A fold as far as it has got, and how many records are in it.
 pub struct Begun {
@@ -364,8 +377,8 @@ pub struct Begun {
 // lists are so. The compiler sees that each part is known, and keeps nothing but the numbers from one
 // record to the next.
 fn fold_whole(doubles: &[f64], totals: &[i64], types: &[u32], flags: &[u32]) -> Begun
-    requires { ⌜ records.Fit (records.lists (now doubles) (now totals) (now types) (now flags)) ⌝ }
-    ensures { λ r. ⌜ records.FoldedTo (records.lists (now (doubles .entry)) (now (totals .entry)) (now (types .entry)) (now (flags .entry))) (r .folded) (r .count) ⌝ }
+    requires { ⌜ within.Fit (records.lists (now doubles) (now totals) (now types) (now flags)) ⌝ }
+    ensures { λ r. ⌜ within.FoldedTo (records.lists (now (doubles .entry)) (now (totals .entry)) (now (types .entry)) (now (flags .entry))) (r .folded) (r .count) ⌝ }
 {
     let none = Folded::start();
     if flags.len() == 0 {
@@ -407,7 +420,7 @@ fn fold_whole(doubles: &[f64], totals: &[i64], types: &[u32], flags: &[u32]) -> 
 
 // The fold of lists that fit.
 fn fold_lists(doubles: &[f64], totals: &[i64], types: &[u32], flags: &[u32]) -> Folded
-    requires { ⌜ records.Fit (records.lists (now doubles) (now totals) (now types) (now flags)) ⌝ }
+    requires { ⌜ within.Fit (records.lists (now doubles) (now totals) (now types) (now flags)) ⌝ }
     ensures { λ r. ⌜ r ≡ statistics.fold (records.records (records.lists (now (doubles .entry)) (now (totals .entry)) (now (types .entry)) (now (flags .entry)))) ⌝ }
 {
     let begun = fold_whole(doubles, totals, types, flags);

@@ -1,7 +1,7 @@
 // Fees: of a record, and of a list of sizes with a known byte for each.
 ghost use mathlib.Core.Path.{_≡_};
 ghost use lib.ListN.{length};
-ghost use Rattle.scan_tariff.specs.Tariff as scan;
+ghost use Rattle.scan_tariff.specs.Within as within;
 ghost use Rattle.johikape.specs.Records as records;
 ghost use Rattle.johikape.specs.Tariff as tariff;
 use crate::records::Doubles;
@@ -17,7 +17,7 @@ use scan_tariff::tariff::fee_of_record;
 use scan_tariff::tariff::fee_of_total;
 use scan_tariff::tariff::no_bytes;
 use scan_tariff::tariff::with_size;
-use sedona_expr::error::BOXES;
+use sedona_expr::error::BAD_LISTS;
 use sedona_expr::refusals::are_zero_or_one;
 use sedona_expr::statistics::Total;
 
@@ -47,7 +47,7 @@ pub extern "C" fn johikape_fee_of_record(
     ensures { λ r. ⌜ tariff.Gives (tariff.feeOfRecord (records.parts (now (doubles .entry)) (now (totals .entry)) types flags) (tariff.rates first second third)) r (now (cents .entry)) (now (cents .exit)) ⌝ }
 {
     if !are_good(flags) {
-        return BOXES;
+        return BAD_LISTS;
     }
     let rec = read(doubles, totals, types, flags);
     let rates = Rates {
@@ -63,15 +63,15 @@ fn sizes_refusal(sizes: &[i64], known: &[u8]) -> u32
     ensures { λ r. ⌜ r ≡ tariff.sizesRefusal (now (sizes .entry)) (now (known .entry)) ⌝ }
 {
     if sizes.len() != known.len() {
-        return BOXES;
+        return BAD_LISTS;
     }
-    if are_zero_or_one(known) { 0 } else { BOXES }
+    if are_zero_or_one(known) { 0 } else { BAD_LISTS }
 }
 
 // The sum of lists that fit; missing where a size, or the sum, is not billed.
 fn sum_of(sizes: &[i64], known: &[u8]) -> Total
     requires { ⌜ length (now sizes) ≡ length (now known) ⌝ }
-    ensures { λ r. ⌜ r ≡ scan.withSizes scan.noBytes (tariff.sizes (now (sizes .entry)) (now (known .entry))) ⌝ }
+    ensures { λ r. ⌜ r ≡ within.withSizes within.noBytes (tariff.sizes (now (sizes .entry)) (now (known .entry))) ⌝ }
 {
     let mut sum = no_bytes();
     let mut i = 0;

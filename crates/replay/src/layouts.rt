@@ -16,6 +16,7 @@ use replay_text::words::MOST_WORDS;
 use replay_text::words::Words;
 use replay_text::write::put_doubles;
 use sedona_expr::statistics::Bbox;
+use sedona_expr::tables::FLAG_LIMIT;
 use sedona_geometry::bounding_box::BoundingBox;
 use sedona_geometry::bounding_box::Dimension;
 
@@ -35,26 +36,17 @@ pub fn put_call_of_layouts(out: &mut Buffer, filled: usize, call: Call, words: W
     put_array(out, filled, to_geoparquet(bounds))
 }
 
-// The box of eight ends and a flag of 1, 3, 5 or 7, its fields filled with these ends; else none.
+// The box of so many ends and an odd flag below the limit, its fields filled with these ends; else none.
 fn flagged_box(ends: [f64; MOST_WORDS], flag: u32) -> Bbox {
-    if flag > 7 || flag % 2 == 0 {
+    if flag >= FLAG_LIMIT as u32 || flag % 2 == 0 {
         return Bbox::Missing;
     }
     Bbox::Known(BoundingBox {
         x: filled_x(ends[0], ends[1]),
         y: filled(ends[2], ends[3]),
-        z: flagged_dimension(flag / 2 % 2 == 1, ends[4], ends[5]),
-        m: flagged_dimension(flag / 4 == 1, ends[6], ends[7]),
+        z: Dimension::known_where(flag / 2 % 2 == 1, filled(ends[4], ends[5])),
+        m: Dimension::known_where(flag / 4 == 1, filled(ends[6], ends[7])),
     })
-}
-
-// A z or an m, where it is known.
-fn flagged_dimension(known: bool, lo: f64, hi: f64) -> Dimension {
-    if known {
-        Dimension::Known(filled(lo, hi))
-    } else {
-        Dimension::Missing
-    }
 }
 
 // Puts a number, how many numbers an array has, and its six places.

@@ -16,12 +16,13 @@ use sedona_expr::names::NameSearch;
 use sedona_expr::names::find_name;
 use sedona_expr::spatial_filter::Evaluation;
 use sedona_expr::spatial_filter::evaluate_by_name;
+use sedona_expr::tables::ENDS;
 use std::num::wrapping_add_u32;
 
 // The most columns, and the ends of their boxes.
 const MOST: usize = 1024;
 
-const MOST_ENDS: usize = 8192;
+const MOST_ENDS: usize = MOST * ENDS;
 
 // Puts what a call answers. The words end with how many columns there are, the step, and the last name.
 pub fn put_call_of_many(
@@ -68,7 +69,7 @@ fn evaluate(count: usize, step: u32, last: u32, nodes: &Nodes, tables: Tables) -
         first_words(tables.node_words, nodes),
         first_doubles(literals.count, &literals.list),
         first_flags(literal_flags.count, &literal_flags.list),
-        first_doubles(count % (MOST + 1) * 8, &ends()),
+        first_doubles(count % (MOST + 1) * ENDS, &ends()),
         first_flags(count, &[1; MOST]),
         first_words(count, &[0; MOST]),
         first_flags(count, &[0; MOST]),
@@ -92,8 +93,8 @@ fn ends() -> [f64; MOST_ENDS] {
     let mut ends = [0.0; MOST_ENDS];
     let mut place = 0.0;
     for i in 0..MOST {
-        ends[8 * i] = place;
-        ends[8 * i + 1] = place;
+        ends[ENDS * i] = place;
+        ends[ENDS * i + 1] = place;
         place = place + 1.0;
     }
     ends

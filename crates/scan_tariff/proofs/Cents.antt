@@ -6,7 +6,7 @@ use native.Mathlib.Nat.{add-le-add, mul-le-mul, mul-le-mul-right, mod-lt, div-ad
 use native.Mathlib.Omega.{arith}
 use borrow.Author.Tests.{ltb-false}
 use lib.Dec.{T, ltb, ltb→lt, nltb→le, lit<}
-use Rattle.sedona_expr.specs.Refusals.{when}
+use Rattle.sedona_expr.specs.Refusals.{refuseIf}
 use Rattle.scan_tariff.specs.Error as error
 use Rattle.scan_tariff.specs.Tariff.{gib, mostBytes, ratesRefusal, exact, nearestCent, cents, Nearest}
 use Rattle.scan_tariff.specs.declared.tariff.Rates.{Rates}
@@ -22,7 +22,7 @@ pub rates-pass : (r : Rates) → ratesRefusal r ≡ 0 → (r .first ≤ 10000) �
 unfolding ratesRefusal
 rates-pass r e = go (ltb 10000 (r .first)) (ltb 10000 (r .second)) (ltb 10000 (r .third)) refl refl refl e
   where
-    go : (a b c : Bool) → ltb 10000 (r .first) ≡ a → ltb 10000 (r .second) ≡ b → ltb 10000 (r .third) ≡ c → when (a || b || c) error.badRate ≡ 0
+    go : (a b c : Bool) → ltb 10000 (r .first) ≡ a → ltb 10000 (r .second) ≡ b → ltb 10000 (r .third) ≡ c → refuseIf (a || b || c) error.badRate ≡ 0
         → (r .first ≤ 10000) × ((r .second ≤ 10000) × (r .third ≤ 10000))
     go false false false p q s z = (ltb-false 10000 (r .first) p, (ltb-false 10000 (r .second) q, ltb-false 10000 (r .third) s))
     go true b c p q s z = absurd (omega arith)

@@ -5,7 +5,7 @@ use Prim.Native.Nat.{ℕ, _+_, _-_, _*_, _^_, _≤_}
 use lib.Dec.{lit≤}
 use lib.IntN.{pos, negsuc}
 use lib.ListN.{replicate}
-use Rattle.sedona_expr.specs.Statistics.{sumLeaves, leaves, totalsOverflow, countsOverflow, mergeValue, step, foldFrom, fold, unspecified, sum}
+use Rattle.sedona_expr.specs.Statistics.{sumIsOutside, isOutside, totalsOverflow, countsOverflow, mergeValue, step, foldFrom, fold, unspecified, sum}
 use Rattle.sedona_expr.specs.Refusals.{orElse}
 use Rattle.sedona_expr.specs.declared.statistics.Total as Total
 use Rattle.sedona_expr.specs.declared.statistics.Total.{Total}
@@ -139,7 +139,7 @@ unfolding isBilled
 two-are-their-sum = fee-of-list two (at 3 50 700) (lit≤ tt) refl
 
 pub two-folded : feeOfRecord (fold (map file two) .rec) (at 3 50 700) ≡ feeOfSizes two (at 3 50 700)
-unfolding isBilled foldFrom step mergeValue totalsOverflow countsOverflow sumLeaves leaves
+unfolding isBilled foldFrom step mergeValue totalsOverflow countsOverflow sumIsOutside isOutside
 two-folded = fee-of-fold (file (known (2 ^ 29))) (file (known (64 * gib)) ∷ []) (at 3 50 700) refl (lit≤ tt) refl
 
 pub more-cost-no-less : feeOfSizes two (at 3 50 700) .cents ≤ feeOfSizes more (at 3 50 700) .cents

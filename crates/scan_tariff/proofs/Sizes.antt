@@ -13,13 +13,16 @@ use lib.Signed.{ltZ, leZ, nonNeg}
 use lib.ListN.{length}
 use mir.Syntax.{w64}
 use mir.Val.{SFits}
-use Rattle.sedona_geometry.proofs.Order.{fails, holds, ℕ-le-or-lt}
+use Rattle.sedona_geometry.specs.Lists.{areAll}
+use Rattle.sedona_geometry.proofs.Booleans.{fails, holds}
+use Rattle.sedona_geometry.proofs.Order.{ℕ-le-or-lt}
 use Rattle.sedona_expr.specs.Statistics.{plus, sum}
-use Rattle.sedona_expr.specs.Refusals.{all, orElse}
+use Rattle.sedona_expr.specs.Refusals.{orElse}
 use Rattle.sedona_expr.specs.declared.statistics.Total as Total
 use Rattle.sedona_expr.specs.declared.statistics.Total.{Total}
 use Rattle.scan_tariff.specs.Error as error
-use Rattle.scan_tariff.specs.Tariff.{mostBytes, isBilled, billed, noBytes, withSize, withSizes, totalRefusal, sizesRefusal, ratesRefusal, refused, cents, fee, feeOfTotal, feeOfSizes}
+use Rattle.scan_tariff.specs.Tariff.{mostBytes, isBilled, totalRefusal, sizesRefusal, ratesRefusal, refused, cents, fee, feeOfTotal, feeOfSizes}
+use Rattle.scan_tariff.specs.Within.{billed, noBytes, withSize, withSizes}
 use Rattle.scan_tariff.specs.declared.tariff.Rates.{Rates}
 
 -- ---- totals apart
@@ -116,22 +119,22 @@ missing-stays [] = refl
 missing-stays (t ∷ ts) = missing-stays ts
 
 -- of a list that begins with a size
-rest-bad : (t : Total) (ts : List Total) → isBilled t ≡ true → all isBilled (t ∷ ts) ≡ false → all isBilled ts ≡ false
-rest-bad t ts e f = sym (ap (λ (b : Bool). b && all isBilled ts) e) ∙ f
+rest-bad : (t : Total) (ts : List Total) → isBilled t ≡ true → areAll isBilled (t ∷ ts) ≡ false → areAll isBilled ts ≡ false
+rest-bad t ts e f = sym (ap (λ (b : Bool). b && areAll isBilled ts) e) ∙ f
 
-first-good : (t : Total) (ts : List Total) → all isBilled (t ∷ ts) ≡ true → (isBilled t ≡ true) × (all isBilled ts ≡ true)
+first-good : (t : Total) (ts : List Total) → areAll isBilled (t ∷ ts) ≡ true → (isBilled t ≡ true) × (areAll isBilled ts ≡ true)
 first-good t ts e = go (isBilled t) refl e
   where
-    go : (b : Bool) → isBilled t ≡ b → (b && all isBilled ts) ≡ true → (isBilled t ≡ true) × (all isBilled ts ≡ true)
+    go : (b : Bool) → isBilled t ≡ b → (b && areAll isBilled ts) ≡ true → (isBilled t ≡ true) × (areAll isBilled ts ≡ true)
     go true f g = (f, g)
     go false f g = absurd (holds g)
 
 -- where some size is not billed, the sum is missing in the end
-walked-bad : (s : Total) (ts : List Total) → all isBilled ts ≡ false → withSizes s ts ≡ Total.Missing
+walked-bad : (s : Total) (ts : List Total) → areAll isBilled ts ≡ false → withSizes s ts ≡ Total.Missing
 walked-bad s [] e = absurd (fails e tt)
 walked-bad s (t ∷ ts) e = go (isBilled t) refl (walked-bad (withSize s t) ts)
   where
-    go : (b : Bool) → isBilled t ≡ b → (all isBilled ts ≡ false → withSizes (withSize s t) ts ≡ Total.Missing) → withSizes (withSize s t) ts ≡ Total.Missing
+    go : (b : Bool) → isBilled t ≡ b → (areAll isBilled ts ≡ false → withSizes (withSize s t) ts ≡ Total.Missing) → withSizes (withSize s t) ts ≡ Total.Missing
     go true f k = k (rest-bad t ts f e)
     go false f k = ap (λ (u : Total). withSizes u ts) (missing-right s t (rw f)) ∙ missing-stays ts
 
@@ -140,7 +143,7 @@ record Counted (ts : List Total) : Type 0 where
   count : ℕ
   is : sum ts ≡ Total.Known (pos count)
 
-counted : (ts : List Total) → all isBilled ts ≡ true → Counted ts
+counted : (ts : List Total) → areAll isBilled ts ≡ true → Counted ts
 counted [] e = record { count = 0; is = refl }
 counted (t ∷ ts) e =
     let g = first-good t ts e in
@@ -149,7 +152,7 @@ counted (t ∷ ts) e =
     record { count = z .count + c .count; is = ap₂ plus (z .is) (c .is) }
 
 -- and the walk gives it, where it is billed
-walked-good : (n : ℕ) (ts : List Total) → n ≤ mostBytes → (e : all isBilled ts ≡ true) → withSizes (Total.Known (pos n)) ts ≡ billed (Total.Known (pos (n + counted ts e .count)))
+walked-good : (n : ℕ) (ts : List Total) → n ≤ mostBytes → (e : areAll isBilled ts ≡ true) → withSizes (Total.Known (pos n)) ts ≡ billed (Total.Known (pos (n + counted ts e .count)))
 unfolding counted
 walked-good n [] l e = sym (ap (λ (k : ℕ). billed (Total.Known (pos k))) (add-zero n) ∙ billed-count n l)
 walked-good n (t ∷ ts) l e = ap (λ (u : Total). withSizes (withSize (Total.Known (pos n)) u) ts) (z .is) ∙ ap (λ (u : Total). withSizes u ts) (both-known (Total.Known (pos n)) (Total.Known (pos k)) (pos n) (pos k) (billed-count n l) (billed-count k (z .most))) ∙ go (ℕ-le-or-lt (n + k) mostBytes) (λ m. walked-good (n + k) ts m (first-good t ts e .1))
@@ -204,9 +207,9 @@ fee-given t z r e h = fee-known t z r e ∙ rw (eq-eqb (ratesRefusal r) 0 h)
 -- The fee of a list that is not too long is that of its sum as it is walked.
 pub fee-walked : (ts : List Total) (r : Rates) → length ts ≤ 1000 → feeOfTotal (withSizes noBytes ts) r ≡ feeOfSizes ts r
 unfolding feeOfTotal feeOfSizes totalRefusal sizesRefusal isBilled
-fee-walked ts r l = rw (le-ltb 1000 (length ts) l) (go (all isBilled ts) refl)
+fee-walked ts r l = rw (le-ltb 1000 (length ts) l) (go (areAll isBilled ts) refl)
   where
-    go : (b : Bool) → all isBilled ts ≡ b → feeOfTotal (withSizes noBytes ts) r ≡ fee (cond (not b || not (isBilled (sum ts))) error.badSize 0) (sum ts) r
+    go : (b : Bool) → areAll isBilled ts ≡ b → feeOfTotal (withSizes noBytes ts) r ≡ fee (cond (not b || not (isBilled (sum ts))) error.badSize 0) (sum ts) r
     go false e = ap (λ (u : Total). feeOfTotal u r) (walked-bad noBytes ts e) ∙ fee-bad Total.Missing r ∙ sym (fee-bad (sum ts) r)
     go true e =
         let c = counted ts e in

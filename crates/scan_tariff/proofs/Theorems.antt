@@ -9,9 +9,9 @@ use borrow.Author.Tests.{eqb-false, le-ltb}
 use lib.Dec.{eqb}
 use lib.IntN.{+ℤ-idr}
 use lib.ListN.{length, length-map}
+use Rattle.sedona_geometry.specs.Lists.{areAll}
 use Rattle.sedona_geometry.proofs.Order.{ℕ-le-or-lt}
 use Rattle.sedona_expr.specs.Statistics.{fold, sum, total, sizeBytes}
-use Rattle.sedona_expr.specs.Refusals.{all}
 use Rattle.sedona_expr.specs.declared.statistics.Total as Total
 use Rattle.sedona_expr.specs.declared.statistics.Total.{Total}
 use Rattle.sedona_expr.specs.declared.statistics.GeoStatistics.{GeoStatistics}
@@ -65,7 +65,7 @@ module _ (n : ℕ) (r : Rates) where
 -- The fee of a list is the fee of its sum, be it a fee, 18 for a sum over 2^40, or 19.
 --     l    the list is "of at most 1,000 sizes"
 --     e    no size is "missing, negative or over 2^40"
-pub fee-of-list : (ts : List Total) (r : Rates) → length ts ≤ 1000 → all isBilled ts ≡ true → feeOfSizes ts r ≡ feeOfTotal (sum ts) r
+pub fee-of-list : (ts : List Total) (r : Rates) → length ts ≤ 1000 → areAll isBilled ts ≡ true → feeOfSizes ts r ≡ feeOfTotal (sum ts) r
 unfolding feeOfSizes feeOfTotal sizesRefusal totalRefusal
 fee-of-list ts r l e = rw (le-ltb 1000 (length ts) l, e)
 
@@ -86,7 +86,7 @@ fee-of-one s r = of-one (s .«total_size_bytes») r
 --     e    the fold is not refused: no total leaves its range
 --     l, b    the list passes, as above. One that does not gets 18, where a record of more records than 1,000, or of sizes that mend each
 --             other, may have a fee
-pub fee-of-fold : (s : GeoStatistics) (ss : List GeoStatistics) (r : Rates) → fold (s ∷ ss) .number ≡ 0 → length (s ∷ ss) ≤ 1000 → all isBilled (map (total sizeBytes) (s ∷ ss)) ≡ true
+pub fee-of-fold : (s : GeoStatistics) (ss : List GeoStatistics) (r : Rates) → fold (s ∷ ss) .number ≡ 0 → length (s ∷ ss) ≤ 1000 → areAll isBilled (map (total sizeBytes) (s ∷ ss)) ≡ true
     → feeOfRecord (fold (s ∷ ss) .rec) r ≡ feeOfSizes (map (total sizeBytes) (s ∷ ss)) r
 fee-of-fold s ss r e l b = ap (λ (t : Total). feeOfTotal t r) (totals-are-sums sizeBytes s ss e) ∙ sym (fee-of-list (map (total sizeBytes) (s ∷ ss)) r (subst (λ (n : ℕ). n ≤ 1000) (sym (length-map (s ∷ ss) (total sizeBytes))) l) b)
 

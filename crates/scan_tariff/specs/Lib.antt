@@ -1,2 +1,3 @@
 pub mod Error
 pub mod Tariff
+pub mod Within

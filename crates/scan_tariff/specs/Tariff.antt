@@ -1,12 +1,13 @@
 -- The scan tariff, after request 7 of 02, over whole numbers.
 use mathlib.Core.Bool.{Bool, false, not, _||_, cond}
-use mathlib.Core.List.{List, [], _∷_}
+use mathlib.Core.List.{List}
 use Prim.Native.Nat.{ℕ, suc, _+_, _-_, _*_, _/_, _%_, _^_, _≤_, _<_, min}
 use lib.Dec.{eqb, ltb, leb}
 use lib.IntN.{pos, negsuc, natAbs}
 use lib.ListN.{length}
-use Rattle.sedona_expr.specs.Statistics.{plus, sum}
-use Rattle.sedona_expr.specs.Refusals.{all, orElse, when}
+use Rattle.sedona_geometry.specs.Lists.{areAll}
+use Rattle.sedona_expr.specs.Statistics.{sum}
+use Rattle.sedona_expr.specs.Refusals.{orElse, refuseIf}
 use Rattle.sedona_expr.specs.declared.statistics.Total as Total
 use Rattle.sedona_expr.specs.declared.statistics.Total.{Total}
 use Rattle.sedona_expr.specs.declared.statistics.GeoStatistics.{GeoStatistics}
@@ -55,15 +56,15 @@ isBilled (Total.Known (pos n)) = leb n mostBytes
 
 -- 18, of one size.
 unfoldable pub totalRefusal : Total → ℕ
-totalRefusal t = when (not (isBilled t)) error.badSize
+totalRefusal t = refuseIf (not (isBilled t)) error.badSize
 
 -- 18, of a list: "each size in turn and then the sum", "as is a longer list".
 unfoldable pub sizesRefusal : List Total → ℕ
-sizesRefusal ts = when (ltb 1000 (length ts) || not (all isBilled ts) || not (isBilled (sum ts))) error.badSize
+sizesRefusal ts = refuseIf (ltb 1000 (length ts) || not (areAll isBilled ts) || not (isBilled (sum ts))) error.badSize
 
 -- 19: "a rate over 10,000".
 unfoldable pub ratesRefusal : Rates → ℕ
-ratesRefusal r = when (ltb 10000 (r .first) || ltb 10000 (r .second) || ltb 10000 (r .third)) error.badRate
+ratesRefusal r = refuseIf (ltb 10000 (r .first) || ltb 10000 (r .second) || ltb 10000 (r .third)) error.badRate
 
 -- Their order: that of the sizes, "then" that of the rates.
 abbrev pub refusal : ℕ → Rates → ℕ
@@ -94,21 +95,6 @@ feeOfRecord s r = feeOfTotal (s .«total_size_bytes») r
 -- "for a lent list of at most 1,000 sizes as the fee of their sum".
 unfoldable pub feeOfSizes : List Total → Rates → Fee
 feeOfSizes ts r = fee (sizesRefusal ts) (sum ts) r
-
--- ---- the sum as it is walked, which is missing from where a size, or the sum so far, is not billed
-
-abbrev pub billed : Total → Total
-billed t = cond (isBilled t) t Total.Missing
-
-abbrev pub noBytes : Total
-noBytes = Total.Known (pos 0)
-
-unfoldable pub withSize : Total → Total → Total
-withSize s t = billed (plus (billed s) (billed t))
-
-abbrev pub withSizes : Total → List Total → Total
-withSizes s [] = s
-withSizes s (t ∷ ts) = withSizes (withSize s t) ts
 
 -- ---- what the theorems speak of
 

@@ -3,6 +3,7 @@
 ghost use mathlib.Core.Path.{_≡_};
 ghost use Prim.Native.Nat.{_≤_, min};
 ghost use Rattle.scan_tariff.specs.Tariff as tariff;
+ghost use Rattle.scan_tariff.specs.Within as within;
 use crate::error::BAD_RATE;
 use crate::error::BAD_SIZE;
 use sedona_expr::statistics::GeoStatistics;
@@ -64,7 +65,7 @@ fn is_billed(size: Total) -> bool
 
 // The size, where it is billed; else missing.
 fn billed(size: Total) -> Total
-    ensures { λ r. ⌜ r ≡ tariff.billed size ⌝ }
+    ensures { λ r. ⌜ r ≡ within.billed size ⌝ }
 {
     if is_billed(size) {
         return size;
@@ -74,14 +75,14 @@ fn billed(size: Total) -> Total
 
 // The sum of no sizes.
 pub fn no_bytes() -> Total
-    ensures { λ r. ⌜ r ≡ tariff.noBytes ⌝ }
+    ensures { λ r. ⌜ r ≡ within.noBytes ⌝ }
 {
     Total::Known(0)
 }
 
 // The sum with a size more; missing where either of them, or the new sum, is not billed.
 pub fn with_size(sum: Total, size: Total) -> Total
-    ensures { λ r. ⌜ r ≡ tariff.withSize sum size ⌝ }
+    ensures { λ r. ⌜ r ≡ within.withSize sum size ⌝ }
 {
     let so_far = billed(sum);
     let more = billed(size);
@@ -96,7 +97,7 @@ pub fn with_size(sum: Total, size: Total) -> Total
 
 // The sum of a list; missing where a size, or the sum, is not billed.
 fn sum_of(sizes: &[Total]) -> Total
-    ensures { λ r. ⌜ r ≡ tariff.withSizes tariff.noBytes (now (sizes .entry)) ⌝ }
+    ensures { λ r. ⌜ r ≡ within.withSizes within.noBytes (now (sizes .entry)) ⌝ }
 {
     let mut sum = no_bytes();
     let mut i = 0;

@@ -15,7 +15,7 @@ use Rattle.sedona_expr.specs.Error as error
 use Rattle.sedona_expr.specs.Refusals.{boxRefusal}
 use Rattle.sedona_expr.specs.SpatialFilter.{boxFor}
 use Rattle.sedona_expr.specs.Statistics.{plusZeroWhereKnown, mergeBboxes, unspecified, empty, plusZero, refused, totalsOverflow, countsOverflow, mergeParts, mergeValue, mergeOrKeep, merge, start, first, ofMerged, stays, step, foldFrom, fold, CanonicalWhereKnown}
-use Rattle.sedona_expr.specs.Tables.{Boxes, hasBox, knowsZ, knowsM, intervalAt, dimension, boxWith, boxAt, Table, root}
+use Rattle.sedona_expr.specs.Tables.{Boxes, hasBox, knowsZ, knowsM, intervalAt, boxWith, boxAt, Table, root}
 use Rattle.sedona_expr.specs.declared.statistics.Bbox as Bbox
 use Rattle.sedona_expr.specs.declared.statistics.Bbox.{Bbox}
 use Rattle.sedona_expr.specs.declared.statistics.GeoStatistics.{GeoStatistics}
@@ -107,7 +107,7 @@ box-at-canonical b i = go (ltb i (length (b .doubles) / 8) && hasBox flag)
     go : (has : Bool) → CanonicalWhereKnown (cond has (Bbox.Known (boxWith (b .doubles) i flag)) Bbox.Missing)
     go true =
         canonical.xyzm-canonical (wraparound.fromInterval (intervalAt (b .doubles) i 0)) (intervalAt (b .doubles) i 1)
-        (dimension (knowsZ flag) (intervalAt (b .doubles) i 2)) (dimension (knowsM flag) (intervalAt (b .doubles) i 3))
+        (boundingBox.knownWhere (knowsZ flag) (intervalAt (b .doubles) i 2)) (boundingBox.knownWhere (knowsM flag) (intervalAt (b .doubles) i 3))
     go false = tt
 
 pub filter-bbox-canonical : (t : Table) (name : ℕ) → boundingBox.Canonical (filterBbox t name .bounds)

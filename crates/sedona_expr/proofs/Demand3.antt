@@ -6,18 +6,18 @@ use Prim.Native.Nat.{ℕ, _-_, _<_}
 use native.Mathlib.Omega.{arith}
 use lib.ListN.{length, getD}
 use Rattle.sedona_geometry.specs.BoundingBox as boundingBox
-use Rattle.sedona_geometry.specs.BoundingBox.{Doubles, numbered}
+use Rattle.sedona_geometry.specs.BoundingBox.{Each, Doubles, numbered}
 use Rattle.sedona_geometry.specs.declared.bounding_box.BoundingBox.{BoundingBox}
-use Rattle.sedona_geometry.proofs.Boxes.{plus-contains, whole}
+use Rattle.sedona_geometry.proofs.Boxes.{each-map, plus-contains, contains-of-parts}
 use Rattle.sedona_expr.specs.Tables.{Records, recordAt, Table, count, root, Lookup, place}
 use Rattle.sedona_expr.specs.Refusals.{boxRefusal}
 use Rattle.sedona_expr.specs.SpatialFilter.{boxFor}
 use Rattle.sedona_expr.specs.Calls.{outcome, filterBbox}
-use Rattle.sedona_expr.specs.Demand.{Row, WhereBox, Holds, EachLeaf, OfLiteral, Wanted, Each, isPoint, lowToHigh, Pointed, MayMatch, Reaches, Demand3}
+use Rattle.sedona_expr.specs.Demand.{Row, WhereBox, Holds, EachLeaf, OfLiteral, Wanted, isPoint, lowToHigh, Pointed, MayMatch, Reaches, Demand3}
 use Rattle.sedona_expr.specs.declared.statistics.Bbox as Bbox
 use Rattle.sedona_expr.specs.declared.statistics.Bbox.{Bbox}
 use Rattle.sedona_expr.specs.declared.statistics.GeoStatistics.{GeoStatistics}
-use Rattle.sedona_expr.proofs.Points.{point, ordered, each-map}
+use Rattle.sedona_expr.proofs.Points.{point, ordered}
 use Rattle.sedona_expr.proofs.Leaves.{leaves-zip, literal-zip, literal-map, leaves-of-table, literal-doubles}
 use Rattle.sedona_expr.proofs.MayMatch.{may-match}
 use Rattle.sedona_expr.proofs.Passing.{box-not-refused}
@@ -59,7 +59,7 @@ module _ (l : Lookup) (t : Table) (r : Records) (row : Row) (names : List ℕ) (
           → WhereBox (λ b. (filterBbox t n .number ≡ 0) × (boundingBox.contains (filterBbox t n .bounds) b ≡ true)) o
       go Bbox.Missing e D p = tt
       go (Bbox.Known b) e D p =
-          rw w (refl, plus-contains (boxFor n (root t)) b (whole (reaches n (λ c. row (place l c)) b D (each-map point p) (root t) literals (of-name E i b h e) H)))
+          rw w (refl, plus-contains (boxFor n (root t)) b (contains-of-parts (reaches n (λ c. row (place l c)) b D (each-map point p) (root t) literals (of-name E i b h e) H)))
 
 -- ---- the whole
 -- Demand 3: against the folds of its columns' records the filter of a row of which it holds answers "may match", by position and by name; and

@@ -5,7 +5,8 @@ use mathlib.Core.Bool.{Bool, true, false, _||_}
 use mathlib.Core.List.{List, [], _∷_}
 use Prim.Native.Nat.{ℕ}
 use native.Mathlib.Omega.{arith}
-use Rattle.sedona_expr.specs.Statistics.{totalsOverflow, countsOverflow, mergeParts, mergeValue, plusZero, step, foldFrom, fold, All}
+use Rattle.sedona_geometry.specs.Lists.{All}
+use Rattle.sedona_expr.specs.Statistics.{totalsOverflow, countsOverflow, mergeParts, mergeValue, plusZero, step, foldFrom, fold}
 use Rattle.sedona_expr.specs.Demand.{Some}
 use Rattle.sedona_expr.specs.Error as error
 use Rattle.sedona_expr.specs.declared.statistics.GeoStatistics.{GeoStatistics}

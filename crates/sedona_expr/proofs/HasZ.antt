@@ -9,20 +9,21 @@ use lib.Dec.{ltb}
 use lib.Ieee.Fits.{and-r}
 use borrow.Author.Tests.{ltb-true}
 use Rattle.sedona_geometry.specs.Interval as interval
-use Rattle.sedona_geometry.specs.BoundingBox.{DoublesWhereKnown, plusZeroWhereKnown, joinKnown, mergeDimensions}
+use Rattle.sedona_geometry.specs.BoundingBox.{WhereKnown, plusZeroWhereKnown, joinKnown, mergeDimensions}
 use Rattle.sedona_geometry.specs.Types.{merge, has}
 use Rattle.sedona_geometry.specs.declared.interval.Interval.{Interval}
 use Rattle.sedona_geometry.specs.declared.bounding_box.Dimension as Dimension
 use Rattle.sedona_geometry.specs.declared.bounding_box.Dimension.{Dimension}
 use Rattle.sedona_geometry.specs.declared.types.GeometryTypeAndDimensionsSet.{GeometryTypeAndDimensionsSet}
-use Rattle.sedona_geometry.proofs.Order.{holds, is-true, is-false, or-right, or-cases, le-refl, le-number}
+use Rattle.sedona_geometry.proofs.Booleans.{holds, is-true, is-false, or-right, or-cases}
+use Rattle.sedona_geometry.proofs.Order.{le-refl, le-number}
 use Rattle.sedona_geometry.proofs.Accepts as plain
 use Rattle.sedona_geometry.proofs.Bits.{merge-has}
 use Rattle.sedona_geometry.proofs.Boxes as boxes
 use Rattle.sedona_expr.specs.Statistics as statistics
 use Rattle.sedona_expr.specs.Statistics.{mergeBboxes, mergeTypes, mergeParts, fold}
 use Rattle.sedona_expr.specs.SpatialFilter.{isZ, hasZType, mayBeZ, isKnownEmpty, hasEmptyZ, mayHaveZ}
-use Rattle.sedona_expr.specs.Demand.{HasBox, WhereKnown, lowToHigh, MissingOrRising, HasTypes, HasBit, Some}
+use Rattle.sedona_expr.specs.Demand.{HasBox, lowToHigh, MissingOrRising, HasTypes, HasBit, Some}
 use Rattle.sedona_expr.specs.declared.statistics.Bbox as Bbox
 use Rattle.sedona_expr.specs.declared.statistics.Bbox.{Bbox}
 use Rattle.sedona_expr.specs.declared.statistics.GeometryTypes as GeometryTypes
@@ -30,7 +31,7 @@ use Rattle.sedona_expr.specs.declared.statistics.GeometryTypes.{Geometry
 use Rattle.sedona_expr.specs.declared.statistics.GeoStatistics.{GeoStatistics}
 use Rattle.sedona_expr.specs.declared.tables.ColumnRecord.{ColumnRecord}
 use Rattle.sedona_expr.proofs.Folds.{some-map, fold-keeps-any}
-use Rattle.sedona_expr.proofs.Masks.{any-of}
+use Rattle.sedona_expr.proofs.WordBits.{any-of}
 use Rattle.sedona_expr.proofs.Points.{ordered}
 
 -- ---- types
@@ -82,9 +83,17 @@ plus-rising : (d : Dimension) → Rising d → Rising (plusZeroWhereKnown d)
 plus-rising Dimension.Missing h = tt
 plus-rising (Dimension.Known i) h = rises (plain.plus-accepts i (lowest i h))
 
-plus-z : (b : Bbox) → HasBox MissingOrRising b → HasBox MissingOrRising (statistics.plusZeroWhereKnown b)
+of-plus-rising : (d : Dimension) → Rising (plusZeroWhereKnown d) → Rising d
+of-plus-rising Dimension.Missing h = tt
+of-plus-rising (Dimension.Known i) h = rises (plain.of-plus-accepts i (lowest (interval.plusZero i) h))
+
+pub plus-z : (b : Bbox) → HasBox MissingOrRising b → HasBox MissingOrRising (statistics.plusZeroWhereKnown b)
 plus-z Bbox.Missing h = absurd h
 plus-z (Bbox.Known b) h = plus-rising (b .z) h
+
+pub of-plus-z : (b : Bbox) → HasBox MissingOrRising (statistics.plusZeroWhereKnown b) → HasBox MissingOrRising b
+of-plus-z Bbox.Missing h = absurd h
+of-plus-z (Bbox.Known b) h = of-plus-rising (b .z) h
 
 merge-z : (a b : Bbox) → HasBox MissingOrRising a ⊎ HasBox MissingOrRising b → HasBox MissingOrRising (mergeBboxes a b)
 unfolding mergeBboxes
@@ -98,7 +107,7 @@ unfolding mergeParts
 fold-z = fold-keeps-any (λ s. HasBox MissingOrRising (s .bbox)) (λ a b. merge-z (a .bbox) (b .bbox)) (λ a. plus-z (a .bbox))
 
 -- ---- which records may have z
-not-empty : (d : Dimension) → DoublesWhereKnown d → Rising d → isKnownEmpty d ≡ false
+not-empty : (d : Dimension) → WhereKnown interval.Doubles d → Rising d → isKnownEmpty d ≡ false
 unfolding isKnownEmpty
 not-empty Dimension.Missing D h = refl
 not-empty (Dimension.Known i) D h = is-false (interval.isEmpty i) (λ e. plain.empty-not-low-to-high D (is-true (interval.isEmpty i) e) (ordered i h))

@@ -1,5 +1,5 @@
 -- The leaves of a filter, and the literals of those that a table spells. Assumes nothing.
-use mathlib.Core.Bool.{Bool, true, false, cond, _&&_}
+use mathlib.Core.Bool.{_&&_}
 use mathlib.Core.List.{List, [], _∷_}
 use Prim.Native.Nat.{ℕ, zero, suc, _/_, _+_, _*_}
 use lib.Dec.{T, eqb, ltb}
@@ -7,21 +7,18 @@ use lib.ListN.{length, getD}
 use lib.Ieee.{nan, binary64, fits}
 use lib.Ieee.Fits.{nan-fits}
 use Rattle.sedona_geometry.specs.Interval as interval
-use Rattle.sedona_geometry.specs.BoundingBox.{Doubles, DoublesWhereKnown}
+use Rattle.sedona_geometry.specs.BoundingBox.{Doubles, WhereKnown, knownWhere}
 use Rattle.sedona_geometry.specs.declared.bounding_box.BoundingBox.{BoundingBox}
 use Rattle.sedona_geometry.proofs.Accepts.{new-doubles, plus-doubles}
 use Rattle.sedona_geometry.proofs.Boxes.{plus-known-doubles}
-use Rattle.sedona_expr.specs.Statistics.{All}
+use Rattle.sedona_geometry.proofs.Booleans.{of-cond}
+use Rattle.sedona_geometry.specs.Lists.{All}
 use Rattle.sedona_expr.specs.SpatialFilter.{Column, Filter, intersects, covers, hasZ, and, or, literalFalse, unknown}
-use Rattle.sedona_expr.specs.Tables.{Boxes, hasBox, intervalAt, dimension, boxWith, boxAt, orEmpty, Table, kind, word, isLeaf, isPair, areBelow, leafOf, pairOf, treeOf, treesBelow, treeAt, knowsZ, knowsM}
+use Rattle.sedona_expr.specs.Tables.{Boxes, ends, hasBox, intervalAt, boxWith, boxAt, orEmpty, Table, kind, word, leafOf, pairOf, hasChildren, alone, treeOf, treesBelow, treeAt, knowsZ, knowsM}
 use Rattle.sedona_expr.specs.Demand.{Leaf, ofBox, aHasZ, EachLeaf, OfLiteral}
 use Rattle.sedona_expr.proofs.StraightBoxes.{empty-straight}
 
--- ---- either of two, and any of a list
-pub of-cond : {A : Type 0} (P : A → Type 0) (b : Bool) {x y : A} → P x → P y → P (cond b x y)
-of-cond P true p q = p
-of-cond P false p q = q
-
+-- ---- any of a list
 of-getD : {A : Type 0} (P : A → Type 0) (xs : List A) (i : ℕ) {d : A} → P d → All P xs → P (getD xs i d)
 of-getD P [] i p h = p
 of-getD P (x ∷ xs) zero p h = h .0
@@ -50,15 +47,14 @@ module _ (t : Table) (P : BoundingBox → Type 0) (every : (i : ℕ) → P (orEm
   Every f = EachLeaf (λ l c. OfLiteral P l) f
 
   leaves-of-node : (n : ℕ) (below : ℕ → Filter) → ((m : ℕ) → Every (below m)) → Every (treeOf t n below)
-  unfolding treeOf leafOf pairOf
+  unfolding treeOf alone leafOf pairOf
   leaves-of-node n below h =
       let k = kind (t .nodes) n in
       let l = h (word (t .nodes) n 1) in
       let r = h (word (t .nodes) n 2) in
       let e = every (word (t .nodes) n 3) in
-      of-cond Every (isLeaf k) (of-cond Every (eqb k 0) e e)
-      (of-cond Every (eqb k 2) tt
-      (of-cond Every (isPair k) (of-cond Every (areBelow (t .nodes) n) (of-cond Every (eqb k 3) (l, r) (l, r)) tt) (of-cond Every (eqb k 5) tt tt)))
+      of-cond Every (hasChildren (t .nodes) n) (of-cond Every (eqb k 3) (l, r) (l, r))
+      (of-cond Every (ltb 2 k) (of-cond Every (eqb k 5) tt tt) (of-cond Every (eqb k 2) tt (of-cond Every (eqb k 0) e e)))
 
   leaves-below : (n m : ℕ) → Every (treesBelow t n m)
   leaves-below zero m = tt
@@ -75,7 +71,7 @@ module _ (b : Boxes) (h : All (λ d. T (fits binary64 d)) (b .doubles)) where
 
   interval-doubles : (i k : ℕ) → interval.Doubles (intervalAt (b .doubles) i k)
   interval-doubles i k =
-      let at = 8 * i + 2 * k in
+      let at = ends * i + 2 * k in
       new-doubles (getD (b .doubles) at nan) (getD (b .doubles) (at + 1) nan) (end-fits at) (end-fits (at + 1))
 
   box-doubles : (i flag : ℕ) → Doubles (boxWith (b .doubles) i flag)
@@ -83,11 +79,11 @@ module _ (b : Boxes) (h : All (λ d. T (fits binary64 d)) (b .doubles)) where
   box-doubles i flag = record {
     x = plus-doubles (plus-doubles (interval-doubles i 0));
     y = plus-doubles (interval-doubles i 1);
-    z = plus-known-doubles (dimension (knowsZ flag) (intervalAt (b .doubles) i 2)) (of-cond DoublesWhereKnown (knowsZ flag) (interval-doubles i 2) tt);
-    m = plus-known-doubles (dimension (knowsM flag) (intervalAt (b .doubles) i 3)) (of-cond DoublesWhereKnown (knowsM flag) (interval-doubles i 3) tt);
+    z = plus-known-doubles (knownWhere (knowsZ flag) (intervalAt (b .doubles) i 2)) (of-cond (WhereKnown interval.Doubles) (knowsZ flag) (interval-doubles i 2) tt);
+    m = plus-known-doubles (knownWhere (knowsM flag) (intervalAt (b .doubles) i 3)) (of-cond (WhereKnown interval.Doubles) (knowsM flag) (interval-doubles i 3) tt);
   }
 
   pub literal-doubles : (i : ℕ) → Doubles (orEmpty (boxAt b i))
   unfolding orEmpty boxAt
   literal-doubles i =
-      of-cond (λ o. Doubles (orEmpty o)) (ltb i (length (b .doubles) / 8) && hasBox (getD (b .flags) i 0)) (box-doubles i (getD (b .flags) i 0)) (empty-straight .doubles)
+      of-cond (λ o. Doubles (orEmpty o)) (ltb i (length (b .doubles) / ends) && hasBox (getD (b .flags) i 0)) (box-doubles i (getD (b .flags) i 0)) (empty-straight .doubles)

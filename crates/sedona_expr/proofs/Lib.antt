@@ -7,7 +7,6 @@ pub mod Instances
 pub mod Leaves
 pub mod Marked
 pub mod Marks
-pub mod Masks
 pub mod MayMatch
 pub mod NameSearches
 pub mod Needed
@@ -24,3 +23,4 @@ pub mod WantedRow
 pub mod While
 pub mod Whole
 pub mod WithoutHasZ
+pub mod WordBits

@@ -10,8 +10,9 @@ use lib.Dec.{eqb}
 use lib.ListN.{length, getD, set, length-set}
 use lib.Seq.{getD-set-same, getD-set-other}
 use borrow.Author.Tests.{eqb-true, eqb-false}
+use Rattle.sedona_expr.specs.Within.{Counted, AtMost}
 use Rattle.sedona_expr.specs.Tables.{word, kind, count, isPair}
-use Rattle.sedona_expr.specs.Refusals.{one, usesBy, uses, Counted, AtMost, allBelow}
+use Rattle.sedona_expr.specs.Refusals.{one, usesBy, uses, allBelow}
 
 -- ---- uses
 one-le : (b : Bool) → one b ≤ 1
@@ -94,8 +95,8 @@ below-same p q zero h = refl
 below-same p q (suc n) h = rw (h n (omega arith), below-same p q n (λ m k. h m (omega arith)))
 
 -- of the marks of all nodes, as of their uses
-pub once : (ns ms : List ℕ) (n : ℕ) → n ≤ count ns → count ns ≤ n → length ns ≤ 4096 → Counted ms (uses ns n)
+pub marks-count-uses : (ns ms : List ℕ) (n : ℕ) → n ≤ count ns → count ns ≤ n → length ns ≤ 4096 → Counted ms (uses ns n)
     → allBelow (λ m. eqb (getD ms m 0) 1) (count ns - 1) ≡ allBelow (λ m. eqb (uses ns (count ns) m) 1) (count ns - 1)
-once ns ms n h k l c =
+marks-count-uses ns ms n h k l c =
     subst (λ (i : ℕ). allBelow (λ m. eqb (getD ms m 0) 1) (count ns - 1) ≡ allBelow (λ m. eqb (uses ns i m) 1) (count ns - 1)) (le-antisymm h k)
     (below-same (λ m. eqb (getD ms m 0) 1) (λ m. eqb (uses ns n m) 1) (count ns - 1) (λ m j. ap (λ (i : ℕ). eqb i 1) (c .1 m (omega arith))))

@@ -2,14 +2,14 @@
 use mathlib.Core.Path.{_≡_, refl, ap}
 use mathlib.Core.Bool.{Bool, true, false, cond}
 use mathlib.Core.List.{List, [], _∷_}
-use Prim.Native.Nat.{ℕ, suc, _+_, _<_}
+use Prim.Native.Nat.{ℕ, suc, _<_}
 use native.Mathlib.Omega.{arith}
 use lib.Dec.{eqb, ltb}
 use lib.ListN.{length, getD}
 use borrow.Author.Tests.{ltb-true, ltb-false, lt-ltb, le-ltb}
-use Rattle.sedona_expr.specs.Names.{hitAtOnce, further, findName, firstAt}
+use Rattle.sedona_expr.specs.Names.{hitAtOnce, further, findName, firstAt, placeOf}
 use Rattle.sedona_expr.specs.SpatialFilter.{Column, Filter, intersects, covers, hasZ, and, or, literalFalse, unknown, answer}
-use Rattle.sedona_expr.specs.Tables.{Records, recordAt, Table, root, byName, placeOf, place, recordOf}
+use Rattle.sedona_expr.specs.Tables.{Records, recordAt, Table, root, byName, place, recordOf}
 use Rattle.sedona_expr.specs.Refusals.{refusal}
 use Rattle.sedona_expr.specs.Calls.{outcome, evaluate}
 use Rattle.sedona_expr.specs.declared.spatial_filter.Evaluation.{Evaluation}
@@ -52,7 +52,7 @@ answer-same r s e (or f g) = rw (answer-same r s e f, answer-same r s e g)
 answer-same r s e literalFalse = refl
 answer-same r s e unknown = refl
 
--- "No caller of the filter should notice": the definition by name, which is what it was, gives the answer of the leaves whose records are where the
+-- "no caller of the filter should notice": the definition by name, which is what it was, gives the answer of the leaves whose records are where the
 -- search finds their names, numbers included.
 pub no-caller-notices : (ns : List ℕ) (t : Table) (r : Records)
     → _≡_ {A = Evaluation} (evaluate (byName ns) t r) (outcome (refusal (byName ns) t r) (answer (λ c. recordAt r (findName ns (c .name) .place)) (root t)))

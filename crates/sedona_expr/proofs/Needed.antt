@@ -34,7 +34,7 @@ of-x lo hi = xy (wraparound.new lo hi) (interval.new (plus 0) (plus 1))
 abbrev of-y : Float → Float → BoundingBox
 of-y lo hi = xy (wraparound.new (plus 0) (plus 1)) (interval.new lo hi)
 
--- "all literals run low to high": a point contains one that falls, which does not contain the point.
+-- "all literals low to high": a point contains one that falls, which does not contain the point.
 pub a-falling-literal : (contains (of-y (plus 4) (plus 4)) (of-y (plus 5) (plus 3)) ≡ true) × (contains (of-y (plus 5) (plus 3)) (of-y (plus 4) (plus 4)) ≡ false)
 unfolding sub lt le eq isNan round ofInt interval.containsInterval interval.isEmpty wraparound.isWraparound wraparound.split wraparound.piecesContain wraparound.containsInterval testKnown contains
 a-falling-literal = (refl, refl)

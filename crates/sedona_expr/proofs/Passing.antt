@@ -1,4 +1,4 @@
--- What the refusals let pass: as many words as make 1 node to 1,024, eight doubles a flag; and `filter_bbox` refuses no table that a filter call takes.
+-- What the refusals let pass: as many words as make 1 node to 1,024, so many doubles a flag; and `filter_bbox` refuses no table that a filter call takes.
 -- Assumes nothing.
 use mathlib.Core.Path.{_≡_, refl, sym, subst, _∙_}
 use mathlib.Core.Bool.{Bool, true, false, not, _&&_, _||_, cond}
@@ -9,20 +9,27 @@ use native.Mathlib.Omega.{arith}
 use lib.Dec.{eqb, ltb}
 use lib.ListN.{length}
 use borrow.Author.Tests.{eqb-true, eqb-false, eq-eqb, ne-eqb, ltb-true, ltb-false}
-use Rattle.sedona_geometry.proofs.Order.{fails}
+use Rattle.sedona_geometry.proofs.Booleans.{fails}
+use Rattle.sedona_expr.specs.Within.{HaveMarks}
 use Rattle.sedona_expr.specs.Error as error
-use Rattle.sedona_expr.specs.Tables.{Records, Table, Lookup, lookup, kind, word, count, isPair, isLeaf, areBelow}
-use Rattle.sedona_expr.specs.Refusals.{orElse, when, wordsRefusal, asksIndex, isLent, columnRefusal, leafRefusal, pairRefusal, HaveMarks, nodeRefusal, nodesRefusal, usesRefusal, tableRefusal, treeRefusal, recordsRefusal, refusal, boxRefusal}
+use Rattle.sedona_expr.specs.Tables.{ends, Records, Table, Lookup, kind, word, count, isPair, isLeaf, areBelow}
+use Rattle.sedona_expr.specs.declared.refusals.Count.{Count}
+use Rattle.sedona_expr.specs.declared.refusals.Count.the-variants.{Any, Of}
+use Rattle.sedona_expr.specs.declared.refusals.Lent.{Lent}
+use Rattle.sedona_expr.specs.Refusals.{orElse, refuseIf, wordsRefusal, columnsOf, lentTo, isLent, columnRefusal, leafRefusal, pairRefusal, nodeRefusal, nodesRefusal, usesRefusal, tableRefusal, treeRefusal, recordsRefusal, refusal, boxRefusal}
 
--- ---- eight doubles a flag, by quotient and remainder
-pub not-in-eights : (d f : ℕ) → (d % 8 ≡ 0 → ⊥) → eqb d (8 * f) ≡ false
-not-in-eights d f h = ne-eqb d (8 * f) (λ e. h (omega arith))
+-- ---- so many doubles a flag, by quotient and remainder
+pub not-in-boxes : (d f : ℕ) → (d % ends ≡ 0 → ⊥) → eqb d (ends * f) ≡ false
+not-in-boxes d f h = ne-eqb d (ends * f) (λ e. h (omega arith))
 
-pub not-so-many : (d f : ℕ) → (d / 8 ≡ f → ⊥) → eqb d (8 * f) ≡ false
-not-so-many d f h = ne-eqb d (8 * f) (λ e. h (omega arith))
-
-pub eights : (d f : ℕ) → d % 8 ≡ 0 → d / 8 ≡ f → eqb d (8 * f) ≡ true
-eights d f h k = eq-eqb d (8 * f) (omega arith)
+pub in-boxes : (d f : ℕ) → d % ends ≡ 0 → eqb (d / ends) f ≡ eqb d (ends * f)
+in-boxes d f h = go (eqb (d / ends) f) refl
+  where
+    go : (b : Bool) → eqb (d / ends) f ≡ b → b ≡ eqb d (ends * f)
+    go true e = sym (eq-eqb d (ends * f) (omega (arith, eqb-true (d / ends) f e)))
+    go false e =
+        let n : (d / ends ≡ f → ⊥) = eqb-false (d / ends) f e in
+        sym (ne-eqb d (ends * f) (λ k. n (omega arith)))
 
 -- ---- the first of two numbers that is not 0
 -- where a test of the first, n, was on the way
@@ -52,27 +59,27 @@ or-else-last m = go (eqb m 0) refl
     go false e = refl
 
 -- ---- nodes upward, where nothing refuses those before n; k is what a test of n gave
-module _ (ns : List ℕ) (literals : ℕ) (lent : ℕ → Bool) (n : ℕ) {k : ℕ} (z : nodesRefusal ns literals lent n ≡ 0) (e : k ≡ nodeRefusal ns literals lent n) where
-  pub nodes-next : k ≡ 0 → nodesRefusal ns literals lent (n + 1) ≡ 0
+module _ (ns : List ℕ) (lent : Lent) (n : ℕ) {k : ℕ} (z : nodesRefusal ns lent n ≡ 0) (e : k ≡ nodeRefusal ns lent n) where
+  pub nodes-next : k ≡ 0 → nodesRefusal ns lent (n + 1) ≡ 0
   nodes-next h = rw (add-one n) (sym (or-else-next refl z (sym h ∙ e)))
 
   -- the first number that is not 0 is that of all
-  pub nodes-stop : (c : ℕ) → n < c → (k ≡ 0 → ⊥) → k ≡ nodesRefusal ns literals lent c
+  pub nodes-stop : (c : ℕ) → n < c → (k ≡ 0 → ⊥) → k ≡ nodesRefusal ns lent c
   nodes-stop zero l d = absurd (omega arith)
   nodes-stop (suc c) l d = go (eqb n c) refl (nodes-stop c)
     where
-      go : (b : Bool) → eqb n c ≡ b → (n < c → (k ≡ 0 → ⊥) → k ≡ nodesRefusal ns literals lent c) → k ≡ nodesRefusal ns literals lent (suc c)
+      go : (b : Bool) → eqb n c ≡ b → (n < c → (k ≡ 0 → ⊥) → k ≡ nodesRefusal ns lent c) → k ≡ nodesRefusal ns lent (suc c)
       go true q f =
           let s : n ≡ c = eqb-true n c q in
-          or-else-next refl (subst (λ (m : ℕ). nodesRefusal ns literals lent m ≡ 0) s z) (subst (λ (m : ℕ). k ≡ nodeRefusal ns literals lent m) s e)
+          or-else-next refl (subst (λ (m : ℕ). nodesRefusal ns lent m ≡ 0) s z) (subst (λ (m : ℕ). k ≡ nodeRefusal ns lent m) s e)
       go false q f =
           let u : (n ≡ c → ⊥) = eqb-false n c q in
-          or-else-stop (nodeRefusal ns literals lent c) (f (omega arith) d) d
+          or-else-stop (nodeRefusal ns lent c) (f (omega arith) d) d
 
 -- the children of a node that passes have marks
-pub children-marked : (ns : List ℕ) (literals : ℕ) (lent : ℕ → Bool) (n : ℕ) → n ≤ 1024 → nodeRefusal ns literals lent n ≡ 0 → HaveMarks ns n
+pub children-marked : (ns : List ℕ) (lent : Lent) (n : ℕ) → n ≤ 1024 → nodeRefusal ns lent n ≡ 0 → HaveMarks ns n
 unfolding nodeRefusal pairRefusal areBelow
-children-marked ns literals lent n h z p =
+children-marked ns lent n h z p =
     let b = below (ltb (word ns n 1) n) (ltb (word ns n 2) n) (pair (ltb 6 (kind ns n)) (eqb (kind ns n) 2) refl (rw p at z)) in
     (omega (arith, ltb-true (word ns n 1) n (b .0)), omega (arith, ltb-true (word ns n 2) n (b .1)))
   where
@@ -81,27 +88,22 @@ children-marked ns literals lent n h z p =
     pair false true e q = absurd (fails (sym (rw (eqb-true (kind ns n) 2 e) at p)) tt)
     pair false false e q = q
 
-    below : (a b : Bool) → when (not (a && b)) error.badTree ≡ 0 → (a ≡ true) × (b ≡ true)
+    below : (a b : Bool) → refuseIf (not (a && b)) error.badTree ≡ 0 → (a ≡ true) × (b ≡ true)
     below true true q = (refl, refl)
     below true false q = absurd (omega arith)
     below false b q = absurd (omega arith)
 
 -- one node has no child to count
-pub one-node : (ns : List ℕ) (literals : ℕ) (lent : ℕ → Bool) → count ns ≡ 1 → nodeRefusal ns literals lent 0 ≡ treeRefusal ns literals lent
+pub one-node : (ns : List ℕ) (lent : Lent) → count ns ≡ 1 → nodeRefusal ns lent 0 ≡ treeRefusal ns lent
 unfolding treeRefusal usesRefusal
-one-node ns literals lent e = rw e (or-else-next refl refl refl ∙ or-else-last _)
-
--- an index is asked for where names are not
-pub asked : (b : Bool) (ns : List ℕ) → not b ≡ asksIndex (lookup b ns)
-asked true ns = refl
-asked false ns = refl
+one-node ns lent e = rw e (or-else-next refl refl refl ∙ or-else-last _)
 
 -- as many words as pass make 1 node to 1,024
 words-pass : (ns : List ℕ) → wordsRefusal ns ≡ 0 → (1 ≤ count ns) × (length ns ≤ 4096)
 unfolding wordsRefusal
 words-pass ns = go (eqb (length ns) 0) (eqb (length ns % 4) 0) (ltb 4096 (length ns)) refl refl refl
   where
-    go : (a b c : Bool) → eqb (length ns) 0 ≡ a → eqb (length ns % 4) 0 ≡ b → ltb 4096 (length ns) ≡ c → when (a || not b || c) error.words ≡ 0
+    go : (a b c : Bool) → eqb (length ns) 0 ≡ a → eqb (length ns % 4) 0 ≡ b → ltb 4096 (length ns) ≡ c → refuseIf (a || not b || c) error.words ≡ 0
         → (1 ≤ count ns) × (length ns ≤ 4096)
     go true b c e f g z = absurd (omega arith)
     go false false c e f g z = absurd (omega arith)
@@ -131,40 +133,46 @@ cond-none : (b : Bool) {m n o p : ℕ} → (m ≡ 0 → o ≡ 0) → (n ≡ 0 �
 cond-none true f g h = f h
 cond-none false f g h = g h
 
--- ---- node by node, where no index is asked for
-module _ (ns : List ℕ) (literals : ℕ) (lent : ℕ → Bool) where
-  column-none : (n : ℕ) → columnRefusal ns lent n ≡ 0 → columnRefusal ns (isLent false 0) n ≡ 0
+-- ---- node by node, where any column is taken as lent
+module _ (ns : List ℕ) (literals columns : Count) where
+  abbrev lent : Lent
+  lent = record { literals = literals; columns = columns }
+
+  abbrev any : Lent
+  any = record { literals = literals; columns = Any }
+
+  column-none : (n : ℕ) → columnRefusal ns any n ≡ 0
   unfolding columnRefusal isLent
-  column-none n h = refl
+  column-none n = refl
 
-  leaf-none : (n : ℕ) → leafRefusal ns literals lent n ≡ 0 → leafRefusal ns literals (isLent false 0) n ≡ 0
+  leaf-none : (n : ℕ) → leafRefusal ns lent n ≡ 0 → leafRefusal ns any n ≡ 0
   unfolding leafRefusal
-  leaf-none n = cond-none (ltb (word ns n 3) literals) (column-none n) (λ h. h)
+  leaf-none n = cond-none (isLent literals (word ns n 3)) (λ h. column-none n) (λ h. h)
 
-  node-none : (n : ℕ) → nodeRefusal ns literals lent n ≡ 0 → nodeRefusal ns literals (isLent false 0) n ≡ 0
+  node-none : (n : ℕ) → nodeRefusal ns lent n ≡ 0 → nodeRefusal ns any n ≡ 0
   unfolding nodeRefusal
   node-none n =
       cond-none (ltb 6 (kind ns n)) (λ h. h)
-      (cond-none (eqb (kind ns n) 2) (column-none n) (cond-none (isPair (kind ns n)) (λ h. h) (cond-none (isLeaf (kind ns n)) (leaf-none n) (λ h. h))))
+      (cond-none (eqb (kind ns n) 2) (λ h. column-none n) (cond-none (isPair (kind ns n)) (λ h. h) (cond-none (isLeaf (kind ns n)) (leaf-none n) (λ h. h))))
 
-  nodes-none : (n : ℕ) → nodesRefusal ns literals lent n ≡ 0 → nodesRefusal ns literals (isLent false 0) n ≡ 0
+  nodes-none : (n : ℕ) → nodesRefusal ns lent n ≡ 0 → nodesRefusal ns any n ≡ 0
   nodes-none zero h = refl
   nodes-none (suc n) h =
-      let b = or-else-zero (nodesRefusal ns literals lent n) (nodeRefusal ns literals lent n) h in
+      let b = or-else-zero (nodesRefusal ns lent n) (nodeRefusal ns lent n) h in
       or-else-none (nodes-none n (b .0)) (node-none n (b .1))
 
-  tree-none : treeRefusal ns literals lent ≡ 0 → treeRefusal ns literals (isLent false 0) ≡ 0
+  tree-none : treeRefusal ns lent ≡ 0 → treeRefusal ns any ≡ 0
   unfolding treeRefusal
   tree-none h =
-      let b = or-else-zero (nodesRefusal ns literals lent (count ns)) (usesRefusal ns) h in
+      let b = or-else-zero (nodesRefusal ns lent (count ns)) (usesRefusal ns) h in
       or-else-none (nodes-none (count ns) (b .0)) (b .1)
 
 -- ---- the whole table
 pub box-not-refused : (l : Lookup) (t : Table) (r : Records) → refusal l t r ≡ 0 → boxRefusal t ≡ 0
 unfolding refusal boxRefusal
 box-not-refused l t r h =
-    let lent = isLent (asksIndex l) (length (r .boxes .flags)) in
-    let tree = treeRefusal (t .nodes) (length (t .literals .flags)) lent in
+    let columns = columnsOf l (length (r .boxes .flags)) in
+    let tree = treeRefusal (t .nodes) (lentTo t columns) in
     let a = or-else-zero (tableRefusal t) (orElse (recordsRefusal l r) tree) h in
     let b = or-else-zero (recordsRefusal l r) tree (a .1) in
-    or-else-none (a .0) (tree-none (t .nodes) (length (t .literals .flags)) lent (b .1))
+    or-else-none (a .0) (tree-none (t .nodes) (Of (length (t .literals .flags))) columns (b .1))

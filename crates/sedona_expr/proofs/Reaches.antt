@@ -6,22 +6,22 @@ use Prim.Native.Nat.{ℕ}
 use borrow.Author.Tests.{eqb-true}
 use lib.Dec.{eqb}
 use Rattle.sedona_geometry.specs.BoundingBox as boundingBox
-use Rattle.sedona_geometry.specs.BoundingBox.{Doubles}
+use Rattle.sedona_geometry.specs.BoundingBox.{Each, Doubles}
 use Rattle.sedona_geometry.specs.declared.bounding_box.BoundingBox.{BoundingBox}
 use Rattle.sedona_geometry.proofs.Contains.{Straight}
-use Rattle.sedona_geometry.proofs.Boxes.{Parts, parts, merge-contains}
+use Rattle.sedona_geometry.proofs.Boxes.{Parts, Rising, parts-of-contains, merge-contains}
+use Rattle.sedona_geometry.proofs.Booleans.{of-cond}
 use Rattle.sedona_expr.specs.SpatialFilter.{Column, Filter, intersects, covers, hasZ, and, or, literalFalse, unknown, full, boxFor}
-use Rattle.sedona_expr.specs.Demand.{Cell, HasBox, Holds, EachLeaf, OfLiteral, Each}
+use Rattle.sedona_expr.specs.Demand.{Cell, HasBox, Holds, EachLeaf, OfLiteral}
 use Rattle.sedona_expr.specs.declared.statistics.Bbox as Bbox
 use Rattle.sedona_expr.specs.declared.statistics.Bbox.{Bbox}
-use Rattle.sedona_expr.proofs.Leaves.{of-cond}
-use Rattle.sedona_expr.proofs.Points.{Point, Ordered, point-low-to-high, full-reaches, common-reaches, contained-reaches}
+use Rattle.sedona_expr.proofs.Points.{Point, point-low-to-high, full-reaches, common-reaches, contained-reaches}
 use Rattle.sedona_expr.proofs.StraightBoxes.{StraightBox, empty-straight, full-straight, merge-straight, intersection-straight, intersection-contains}
 
 -- ---- the literals asked for
 pub record Literal (k : BoundingBox) : Type 0 where
   pub doubles : Doubles k
-  pub ordered : Each Ordered k
+  pub ordered : Each Rising k
 
 abbrev pub Literals : Filter → Type 0
 Literals f = EachLeaf (λ l c. OfLiteral Literal l) f
@@ -53,7 +53,7 @@ module _ (n : ℕ) (own : Column → Cell) (b : BoundingBox) (D : Doubles b) (p 
 
   pub reaches : (f : Filter) → Literals f → EachLeaf (λ l c. OfLiteral (λ k. OfName c) l) f → Holds own f → Parts (boxFor n f) b
   reaches (intersects c k) L e h = leaf-reaches c k (λ a. boundingBox.Common a k) e (common-reaches D (L .doubles) p (L .ordered)) h
-  reaches (covers c k) L e h = leaf-reaches c k (λ a. boundingBox.contains a k ≡ true) e (λ a. contained-reaches D (L .doubles) p (L .ordered) (parts a)) h
+  reaches (covers c k) L e h = leaf-reaches c k (λ a. boundingBox.contains a k ≡ true) e (λ a. contained-reaches D (L .doubles) p (L .ordered) (parts-of-contains a)) h
   reaches (hasZ c) L e h = full-reaches D p
   reaches (and f g) L e h =
       intersection-contains (box-straight n f (L .0)) (box-straight n g (L .1)) D (point-low-to-high p) (reaches f (L .0) (e .0) (h .0)) (reaches g (L .1) (e .1) (h .1))

@@ -9,10 +9,10 @@ use lib.Dec.{eqb}
 use lib.ListN.{length, getD, take, drop, length-drop, drop-of-length-le}
 use lib.Seq.{drop-cons, drop-drop}
 use borrow.Author.Tests.{eqb-true, eqb-false, eq-eqb, ne-eqb, ltb-false}
-use Rattle.sedona_geometry.proofs.Order.{fails}
-use Rattle.sedona_expr.specs.Names.{hitAtOnce, further, findName, isOther, behind}
-use Rattle.sedona_expr.specs.Tables.{placeOf}
-use Rattle.sedona_expr.specs.Refusals.{all, isAmong, hasTwice}
+use Rattle.sedona_geometry.proofs.Booleans.{fails}
+use Rattle.sedona_geometry.specs.Lists.{areAll}
+use Rattle.sedona_expr.specs.Within.{isOther, behind}
+use Rattle.sedona_expr.specs.Names.{hitAtOnce, further, findName, placeOf, isAmong, hasTwice}
 use Rattle.sedona_expr.specs.declared.names.NameSearch.{NameSearch}
 
 pub rest : {A : Type 0} (xs : List A) (i : ℕ) (d : A) → i < length xs → drop i xs ≡ getD xs i d ∷ drop (i + 1) xs
@@ -34,18 +34,18 @@ unfolding findName
 find-next ns i n h e = rw (rest ns i 0 h, ne-eqb (getD ns i 0) n e) (same-search (omega arith) (omega arith))
 
 -- past any number of names of which none is a hit
-pass : (ms : List ℕ) (k n : ℕ) → k ≤ length ms → all (isOther n) (take k ms) ≡ true → findName ms n ≡ behind k (findName (drop k ms) n)
+pass : (ms : List ℕ) (k n : ℕ) → k ≤ length ms → areAll (isOther n) (take k ms) ≡ true → findName ms n ≡ behind k (findName (drop k ms) n)
 unfolding findName
 pass ms zero n h e = find-all ms n
 pass [] (suc k) n h e = absurd (omega arith)
 pass (m ∷ ms) (suc k) n h e = go (eqb m n) (pass ms k n (omega arith)) e
   where
-    go : (b : Bool) → (all (isOther n) (take k ms) ≡ true → findName ms n ≡ behind k (findName (drop k ms) n)) → (not b && all (isOther n) (take k ms)) ≡ true
+    go : (b : Bool) → (areAll (isOther n) (take k ms) ≡ true → findName ms n ≡ behind k (findName (drop k ms) n)) → (not b && areAll (isOther n) (take k ms)) ≡ true
         → cond b hitAtOnce (further (findName ms n)) ≡ behind (suc k) (findName (drop k ms) n)
     go true f e = absurd (fails (sym e) tt)
     go false f e = ap further (f e) ∙ same-search (omega arith) (omega arith)
 
-pub find-past : (ns : List ℕ) (i j n : ℕ) → i ≤ j → j ≤ length ns → all (isOther n) (take (j - i) (drop i ns)) ≡ true
+pub find-past : (ns : List ℕ) (i j n : ℕ) → i ≤ j → j ≤ length ns → areAll (isOther n) (take (j - i) (drop i ns)) ≡ true
     → behind i (findName (drop i ns) n) ≡ behind j (findName (drop j ns) n)
 find-past ns i j n h l e =
     let d : i + (j - i) ≡ j = omega arith in
@@ -62,18 +62,18 @@ test-next good p after e f = e ∙ rw f (sym (and-assoc good p after))
 pub test-end : {whole left : Bool} (good : Bool) → whole ≡ (good && left) → left ≡ true → good ≡ whole
 test-end good e f = sym (e ∙ rw f (and-true good))
 
-pub all-next : {A : Type 0} (p : A → Bool) (xs : List A) (i : ℕ) (d : A) → i < length xs → all p (drop i xs) ≡ (p (getD xs i d) && all p (drop (i + 1) xs))
+pub all-next : {A : Type 0} (p : A → Bool) (xs : List A) (i : ℕ) (d : A) → i < length xs → areAll p (drop i xs) ≡ (p (getD xs i d) && areAll p (drop (i + 1) xs))
 all-next p xs i d h = rw (rest xs i d h)
 
-pub all-none : {A : Type 0} (p : A → Bool) (xs : List A) (i : ℕ) → length xs ≤ i → all p (drop i xs) ≡ true
+pub all-none : {A : Type 0} (p : A → Bool) (xs : List A) (i : ℕ) → length xs ≤ i → areAll p (drop i xs) ≡ true
 all-none p xs i h = rw (drop-of-length-le xs h)
 
 -- the same of a test that goes to the end
-pub all-more : {A : Type 0} (p : A → Bool) (xs : List A) (i : ℕ) (d : A) (good : Bool) → i < length xs → all p xs ≡ (good && all p (drop i xs))
-    → all p xs ≡ ((good && p (getD xs i d)) && all p (drop (i + 1) xs))
-all-more p xs i d good h e = test-next good (p (getD xs i d)) (all p (drop (i + 1) xs)) e (all-next p xs i d h)
+pub all-more : {A : Type 0} (p : A → Bool) (xs : List A) (i : ℕ) (d : A) (good : Bool) → i < length xs → areAll p xs ≡ (good && areAll p (drop i xs))
+    → areAll p xs ≡ ((good && p (getD xs i d)) && areAll p (drop (i + 1) xs))
+all-more p xs i d good h e = test-next good (p (getD xs i d)) (areAll p (drop (i + 1) xs)) e (all-next p xs i d h)
 
-pub all-done : {A : Type 0} (p : A → Bool) (xs : List A) (i : ℕ) (good : Bool) → length xs ≤ i → all p xs ≡ (good && all p (drop i xs)) → good ≡ all p xs
+pub all-done : {A : Type 0} (p : A → Bool) (xs : List A) (i : ℕ) (good : Bool) → length xs ≤ i → areAll p xs ≡ (good && areAll p (drop i xs)) → good ≡ areAll p xs
 all-done p xs i good h e = test-end good e (all-none p xs i h)
 
 -- ---- the first place of a name

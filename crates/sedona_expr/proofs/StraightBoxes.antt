@@ -5,7 +5,7 @@ use mathlib.Core.Bool.{true, false}
 use lib.Ieee.{eq, sub}
 use Rattle.sedona_geometry.specs.Interval as interval
 use Rattle.sedona_geometry.specs.BoundingBox as boundingBox
-use Rattle.sedona_geometry.specs.BoundingBox.{Doubles, DoublesWhereKnown, joinKnown, intersectDimensions, mergeBox}
+use Rattle.sedona_geometry.specs.BoundingBox.{Doubles, WhereKnown, joinKnown, intersectDimensions, mergeBox}
 use Rattle.sedona_geometry.specs.declared.bounding_box.Dimension as Dimension
 use Rattle.sedona_geometry.specs.declared.bounding_box.Dimension.{Dimension}
 use Rattle.sedona_geometry.specs.declared.bounding_box.BoundingBox.{BoundingBox}
@@ -42,7 +42,7 @@ merge-straight {a} {b} s t = record {
   x = rw (boxes.merge-is a b) (containing.merge-straight (s .doubles .x) (t .doubles .x) (s .x) (t .x));
 }
 
-intersect-dimensions-doubles : (d e : Dimension) → DoublesWhereKnown d → DoublesWhereKnown e → DoublesWhereKnown (intersectDimensions d e)
+intersect-dimensions-doubles : (d e : Dimension) → WhereKnown interval.Doubles d → WhereKnown interval.Doubles e → WhereKnown interval.Doubles (intersectDimensions d e)
 unfolding joinKnown
 intersect-dimensions-doubles Dimension.Missing e D E = tt
 intersect-dimensions-doubles (Dimension.Known i) Dimension.Missing D E = tt

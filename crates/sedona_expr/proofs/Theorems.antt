@@ -8,7 +8,9 @@ use lib.IntN.{ℤ, pos, +ℤ-assoc, +ℤ-idr}
 use borrow.Author.Tests.{eqb-true, eqb-false}
 use lib.Dec.{eqb}
 use Rattle.sedona_geometry.proofs.Boxes as boxes
-use Rattle.sedona_expr.specs.Statistics.{plusZeroWhereKnown, mergeBboxes, addExtents, addTotals, sumLeaves, totalsOverflow, countsOverflow, mergeParts, plusZero, refused, mergeValue, foldFrom, fold, All, DoublesWhereKnown, NoLess, Which, geometries, sizeBytes, points, puntal, lineal, polygonal, collection, total, SumsStay, Side, width, height, extent, plus, sum, wholeSum, addAll, PrefixSumsFit, Tree, leaf, node, mergeAnswers, mergeTree, AllLeaves}
+use Rattle.sedona_geometry.specs.Lists.{All}
+use Rattle.sedona_expr.specs.Within.{SumsStay}
+use Rattle.sedona_expr.specs.Statistics.{plusZeroWhereKnown, mergeBboxes, addExtents, addTotals, sumIsOutside, totalsOverflow, countsOverflow, mergeParts, plusZero, refused, mergeValue, foldFrom, fold, DoublesWhereKnown, NoLess, Which, geometries, sizeBytes, points, puntal, lineal, polygonal, collection, total, Side, width, height, extent, plus, sum, wholeSum, addAll, PrefixSumsFit, Tree, leaf, node, mergeAnswers, mergeTree, AllLeaves}
 use Rattle.sedona_expr.specs.Error as error
 use Rattle.sedona_expr.specs.declared.statistics.Bbox as Bbox
 use Rattle.sedona_expr.specs.declared.statistics.Bbox.{Bbox}
@@ -108,7 +110,7 @@ unfolding totalsOverflow countsOverflow
 sums-stay a b e = go
   where
     l : Which → Bool
-    l v = sumLeaves (total v a) (total v b)
+    l v = sumIsOutside (total v a) (total v b)
 
     both : (totalsOverflow a b ≡ false) × (countsOverflow a b ≡ false)
     both = neither (totalsOverflow a b) (countsOverflow a b) e
@@ -122,7 +124,7 @@ sums-stay a b e = go
     last : ((l puntal || l lineal) ≡ false) × (l polygonal ≡ false)
     last = neither (l puntal || l lineal) (l polygonal) (four .0)
 
-    go : (v : Which) → sumLeaves (total v a) (total v b) ≡ false
+    go : (v : Which) → sumIsOutside (total v a) (total v b) ≡ false
     go geometries = neither (l geometries) (l sizeBytes) (three .0) .0
     go sizeBytes = neither (l geometries) (l sizeBytes) (three .0) .1
     go points = three .1
@@ -135,8 +137,8 @@ overflows-not : (a b : GeoStatistics) → SumsStay a b → overflow a b ≡ fals
 unfolding totalsOverflow countsOverflow
 overflows-not a b h = rw (h geometries, h sizeBytes, h points, h puntal, h lineal, h polygonal, h collection)
 
-add-is-plus : (t u : Total) → sumLeaves t u ≡ false → addTotals t u ≡ plus t u
-unfolding sumLeaves addTotals
+add-is-plus : (t u : Total) → sumIsOutside t u ≡ false → addTotals t u ≡ plus t u
+unfolding sumIsOutside addTotals
 add-is-plus Total.Missing u e = refl
 add-is-plus (Total.Known m) Total.Missing e = refl
 add-is-plus (Total.Known m) (Total.Known n) e = rw e

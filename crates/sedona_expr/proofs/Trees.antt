@@ -1,15 +1,19 @@
--- The trees that a table spells, by the kind of their node. Assumes nothing.
+-- The trees that a table spells: of a node with children and of one without, and what these say. Assumes nothing.
 use mathlib.Core.Path.{_≡_, refl, sym, subst, ap, _∙_}
-use mathlib.Core.Bool.{Bool, true, false, not, _||_, cond}
+use mathlib.Core.Bool.{Bool, true, false, not, _&&_, cond}
 use mathlib.Core.List.{List}
 use Prim.Native.Nat.{ℕ, zero, suc, _≤_, _<_}
 use native.Mathlib.Omega.{arith}
-use lib.Dec.{eqb}
-use borrow.Author.Tests.{eqb-true, eqb-false, eq-eqb, ne-eqb, lt-ltb, le-ltb}
-use Rattle.sedona_geometry.proofs.Order.{fails}
-use Rattle.sedona_expr.specs.SpatialFilter.{Column, Filter, intersects, covers, hasZ, and, or, literalFalse, unknown, answer}
-use Rattle.sedona_expr.specs.Tables.{Table, word, kind, isPair, isLeaf, leafOf, pairOf, areBelow, columnOf, literal, treeOf, treesBelow, treeAt}
+use lib.Dec.{eqb, ltb}
+use borrow.Author.Tests.{eqb-true, eqb-false, eq-eqb, ne-eqb, ltb-true, ltb-false}
+use Rattle.sedona_geometry.specs.declared.bounding_box.BoundingBox.{BoundingBox}
+use Rattle.sedona_expr.specs.SpatialFilter.{Column, Filter, intersects, covers, hasZ, and, or, literalFalse, unknown, mayIntersect, mayCover, mayHaveZ, answer, full, boxFor}
+use Rattle.sedona_expr.specs.Tables.{Table, word, kind, columnOf, literal, isPair, leafOf, pairOf, areBelow, hasChildren, alone, treeOf, treesBelow, treeAt}
+use Rattle.sedona_expr.specs.Within.{childrenOf, leafAnswer}
 use Rattle.sedona_expr.specs.declared.tables.ColumnRecord.{ColumnRecord}
+use Rattle.sedona_expr.specs.declared.tables.Pair.{Pair}
+use Rattle.sedona_expr.specs.declared.tables.Children as Children
+use Rattle.sedona_expr.specs.declared.tables.Children.{Children}
 
 pub trees-below : (t : Table) (n m : ℕ) → m < n → treesBelow t n m ≡ treeAt t m
 unfolding treeAt
@@ -22,27 +26,11 @@ trees-below t (suc n) m h = go (eqb m n) refl (λ k. trees-below t n m k)
         let d : (m ≡ n → ⊥) = eqb-false m n e in
         k (omega arith)
 
-leaf-map : {A B : Type 0} (f : A → B) (k : ℕ) (a b : A) → f (leafOf k a b) ≡ leafOf k (f a) (f b)
-unfolding leafOf
-leaf-map f k a b = go (eqb k 0)
-  where
-    go : (c : Bool) → f (cond c a b) ≡ cond c (f a) (f b)
-    go true = refl
-    go false = refl
-
 pair-map : {A B : Type 0} (f : A → B) (k : ℕ) (a b : A) → f (pairOf k a b) ≡ pairOf k (f a) (f b)
 unfolding pairOf
 pair-map f k a b = go (eqb k 3)
   where
     go : (c : Bool) → f (cond c a b) ≡ cond c (f a) (f b)
-    go true = refl
-    go false = refl
-
-pub leaf-same : {A : Type 0} (k : ℕ) (a : A) → leafOf k a a ≡ a
-unfolding leafOf
-leaf-same k a = go (eqb k 0)
-  where
-    go : (c : Bool) → cond c a a ≡ a
     go true = refl
     go false = refl
 
@@ -54,55 +42,104 @@ pub pair-or : {A : Type 0} (k : ℕ) (a b : A) → (k ≡ 3 → ⊥) → pairOf 
 unfolding pairOf
 pair-or k a b e = rw (ne-eqb k 3 e)
 
--- a pair is no leaf
-pair-no-leaf : (k : ℕ) → isPair k ≡ true → (isLeaf k ≡ false) × (eqb k 2 ≡ false)
-pair-no-leaf k = go (eqb k 3) (eqb k 4) refl refl
+-- ---- a node with children, as the search for them tells
+no-children : {p : Pair} → Children.Both p ≡ Children.Neither → ⊥
+no-children e = subst (λ (c : Children). is-both c) e tt
   where
-    go : (a b : Bool) → eqb k 3 ≡ a → eqb k 4 ≡ b → (a || b) ≡ true → (isLeaf k ≡ false) × (eqb k 2 ≡ false)
-    go true b e f h = rw (eqb-true k 3 e) (refl, refl)
-    go false true e f h = rw (eqb-true k 4 f) (refl, refl)
-    go false false e f h = absurd (fails (sym h) tt)
+    is-both : Children → Type 0
+    is-both Children.Neither = ⊥
+    is-both (Children.Both p) = Unit {0}
 
-pair-tree : (t : Table) (n k l r : ℕ) → k ≡ kind (t .nodes) n → l ≡ word (t .nodes) n 1 → r ≡ word (t .nodes) n 2 → isPair k ≡ true → l < n → r < n
-    → treeAt t n ≡ pairOf k (and (treeAt t l) (treeAt t r)) (or (treeAt t l) (treeAt t r))
-unfolding treeAt treeOf areBelow
-pair-tree t n k l r is left right h a b =
-    rw (← is, pair-no-leaf k h .0, pair-no-leaf k h .1, h, ← left, ← right, lt-ltb l n a, lt-ltb r n b, trees-below t n l a, trees-below t n r b)
+pub record HasChildren (ns : List ℕ) (n : ℕ) (p : Pair) : Type 0 where
+  pub has : hasChildren ns n ≡ true
+  pub left : p .left ≡ word ns n 1
+  pub right : p .right ≡ word ns n 2
+  pub left-below : p .left < n
+  pub right-below : p .right < n
 
--- a child that is not below
-pub broken-left : (ns : List ℕ) (n l : ℕ) → l ≡ word ns n 1 → n ≤ l → areBelow ns n ≡ false
-unfolding areBelow
-broken-left ns n l e h = rw (← e, le-ltb l n h)
+pub found-children : (ns : List ℕ) (n : ℕ) (p : Pair) → Children.Both p ≡ childrenOf ns n → HasChildren ns n p
+unfolding childrenOf hasChildren areBelow
+found-children ns n p e = go (isPair (kind ns n)) (ltb (word ns n 1) n) (ltb (word ns n 2) n) refl refl refl e
+  where
+    is : Children → Pair
+    is Children.Neither = p
+    is (Children.Both q) = q
 
-pub broken-right : (ns : List ℕ) (n l r : ℕ) → l ≡ word ns n 1 → r ≡ word ns n 2 → l < n → n ≤ r → areBelow ns n ≡ false
-unfolding areBelow
-broken-right ns n l r e f k h = rw (← e, ← f, lt-ltb l n k, le-ltb r n h)
+    go : (a b c : Bool) → isPair (kind ns n) ≡ a → ltb (word ns n 1) n ≡ b → ltb (word ns n 2) n ≡ c
+        → Children.Both p ≡ cond (a && (b && c)) (Children.Both (record { left = word ns n 1; right = word ns n 2 })) Children.Neither → HasChildren ns n p
+    go true true true q r s e =
+        let same = ap is e in
+        record {
+          has = rw (q, r, s);
+          left = ap (λ (o : Pair). o .left) same;
+          right = ap (λ (o : Pair). o .right) same;
+          left-below = omega (arith, ltb-true (word ns n 1) n r, ap (λ (o : Pair). o .left) same);
+          right-below = omega (arith, ltb-true (word ns n 2) n s, ap (λ (o : Pair). o .right) same);
+        }
+    go true true false q r s e = absurd (no-children e)
+    go true false c q r s e = absurd (no-children e)
+    go false b c q r s e = absurd (no-children e)
 
+found-none : (ns : List ℕ) (n : ℕ) → Children.Neither ≡ childrenOf ns n → hasChildren ns n ≡ false
+unfolding childrenOf
+found-none ns n = go (hasChildren ns n)
+  where
+    go : (a : Bool) → Children.Neither ≡ cond a (Children.Both (record { left = word ns n 1; right = word ns n 2 })) Children.Neither → a ≡ false
+    go true e = absurd (no-children (sym e))
+    go false e = refl
+
+-- ---- what is said of a node's tree, for anything that is said of trees
+module _ {B : Type 0} (say : Filter → B) (t : Table) (n : ℕ) where
+  pub says-alone : Children.Neither ≡ childrenOf (t .nodes) n → say (treeAt t n) ≡ say (alone t n)
+  unfolding treeAt treeOf
+  says-alone e = rw (found-none (t .nodes) n e)
+
+  pair-tree : (p : Pair) → HasChildren (t .nodes) n p
+      → treeAt t n ≡ pairOf (kind (t .nodes) n) (and (treeAt t (p .left)) (treeAt t (p .right))) (or (treeAt t (p .left)) (treeAt t (p .right)))
+  unfolding treeAt treeOf
+  pair-tree p h = rw (h .has, ← h .left, ← h .right, trees-below t n (p .left) (h .left-below), trees-below t n (p .right) (h .right-below))
+
+  pub says-pair : (p : Pair) → HasChildren (t .nodes) n p
+      → say (treeAt t n)
+      ≡ pairOf (kind (t .nodes) n) (say (and (treeAt t (p .left)) (treeAt t (p .right)))) (say (or (treeAt t (p .left)) (treeAt t (p .right))))
+  says-pair p h = ap say (pair-tree p h) ∙ pair-map say (kind (t .nodes) n) (and (treeAt t (p .left)) (treeAt t (p .right))) (or (treeAt t (p .left)) (treeAt t (p .right)))
+
+-- ---- what a node without children says
 -- a LiteralFalse, else an Unknown
 pub answer-other : (own : Column → ColumnRecord) (b : Bool) → answer own (cond b literalFalse unknown) ≡ not b
 answer-other own true = refl
 answer-other own false = refl
 
--- What a tree says of its root, for anything that is said of trees.
-module _ {B : Type 0} (say : Filter → B) (t : Table) (n k l r : ℕ) (is : k ≡ kind (t .nodes) n) (left : l ≡ word (t .nodes) n 1) (right : r ≡ word (t .nodes) n 2) where
-  pub says-leaf : isLeaf k ≡ true → say (treeAt t n) ≡ leafOf k (say (intersects (columnOf (t .nodes) n) (literal t n))) (say (covers (columnOf (t .nodes) n) (literal t n)))
-  unfolding treeAt treeOf
-  says-leaf h = rw (← is, h) (leaf-map say k (intersects (columnOf (t .nodes) n) (literal t n)) (covers (columnOf (t .nodes) n) (literal t n)))
+-- a leaf, by its kind
+pub answer-leaf : (t : Table) (own : Column → ColumnRecord) (k n : ℕ)
+    → let c = columnOf (t .nodes) n in
+    leafAnswer k (own c) (literal t n) ≡ answer own (cond (eqb k 2) (hasZ c) (leafOf k (intersects c (literal t n)) (covers c (literal t n))))
+unfolding leafAnswer leafOf
+answer-leaf t own k n = go (eqb k 2) (eqb k 0)
+  where
+    go : (a b : Bool)
+        → let c = columnOf (t .nodes) n in
+        cond a (mayHaveZ (own c)) (cond b (mayIntersect (own c .bbox) (literal t n)) (mayCover (own c .bbox) (literal t n)))
+        ≡ answer own (cond a (hasZ c) (cond b (intersects c (literal t n)) (covers c (literal t n))))
+    go true b = refl
+    go false true = refl
+    go false false = refl
 
-  pub says-pair : isPair k ≡ true → l < n → r < n → say (treeAt t n) ≡ pairOf k (say (and (treeAt t l) (treeAt t r))) (say (or (treeAt t l) (treeAt t r)))
-  says-pair h a b = ap say whole ∙ pair-map say k (and (treeAt t l) (treeAt t r)) (or (treeAt t l) (treeAt t r))
-    where
-      whole : treeAt t n ≡ pairOf k (and (treeAt t l) (treeAt t r)) (or (treeAt t l) (treeAt t r))
-      whole = pair-tree t n k l r is left right h a b
+-- from HasZ on no node but a LiteralFalse has another box than the full one
+pub box-past-leaves : (name k : ℕ) (c : Column) (leaf : Filter) → 2 ≤ k → boxFor name (cond (ltb 2 k) unknown (cond (eqb k 2) (hasZ c) leaf)) ≡ full
+box-past-leaves name k c leaf h = go (ltb 2 k) (eqb k 2) refl refl
+  where
+    go : (a b : Bool) → ltb 2 k ≡ a → eqb k 2 ≡ b → boxFor name (cond a unknown (cond b (hasZ c) leaf)) ≡ full
+    go true b e f = refl
+    go false true e f = refl
+    go false false e f =
+        let d : (k ≡ 2 → ⊥) = eqb-false k 2 f in
+        absurd (d (omega (arith, ltb-false 2 k e)))
 
-  pub says-broken : isPair k ≡ true → areBelow (t .nodes) n ≡ false → say (treeAt t n) ≡ say unknown
-  unfolding treeAt treeOf
-  says-broken h a = rw (← is, pair-no-leaf k h .0, pair-no-leaf k h .1, h, a)
-
-  pub says-has-z : k ≡ 2 → say (treeAt t n) ≡ say (hasZ (columnOf (t .nodes) n))
-  unfolding treeAt treeOf
-  says-has-z h = rw (← is, h)
-
-  pub says-other : isLeaf k ≡ false → isPair k ≡ false → say (treeAt t n) ≡ say (cond (eqb k 2) (hasZ (columnOf (t .nodes) n)) (cond (eqb k 5) literalFalse unknown))
-  unfolding treeAt treeOf
-  says-other h a = rw (← is, h, a)
+pub box-of-leaf : (name k : ℕ) (c : Column) (l : BoundingBox) → boxFor name (leafOf k (intersects c l) (covers c l)) ≡ cond (eqb (c .name) name) l full
+unfolding leafOf
+box-of-leaf name k c l = go (eqb k 0)
+  where
+    go : (b : Bool) → boxFor name (cond b (intersects c l) (covers c l)) ≡ cond (eqb (c .name) name) l full
+    go true = refl
+    go false = refl

@@ -8,13 +8,13 @@ use lib.Dec.{eqb, ltb}
 use lib.ListN.{length, getD, set, take, drop, length-drop}
 use lib.Seq.{getD-take, length-take-le, getD-set-same, getD-set-other}
 use borrow.Author.Tests.{eqb-true, eqb-false, ltb-true, ltb-false, le-ltb}
-use Rattle.sedona_geometry.proofs.Order.{fails}
-use Rattle.sedona_expr.specs.Names.{findName, comesBefore, ascends, hasBit, withBit}
-use Rattle.sedona_expr.specs.Tables.{placeOf}
-use Rattle.sedona_expr.specs.Refusals.{hasTwice}
+use Rattle.sedona_geometry.proofs.Booleans.{fails}
+use Rattle.sedona_geometry.specs.Bits.{hasBit, withBit}
+use Rattle.sedona_expr.specs.Within.{comesBefore, ascends}
+use Rattle.sedona_expr.specs.Names.{findName, placeOf, hasTwice}
 use Rattle.sedona_expr.proofs.Searches.{rest, place-holds, once-differ}
 use Rattle.sedona_expr.proofs.NameSearches.{hit-is-first, no-hit}
-use Rattle.sedona_expr.proofs.Masks.{bit-is-set, bit-stays}
+use Rattle.sedona_expr.proofs.WordBits.{bit-is-set, bit-stays}
 
 -- The name at a place is none of those before it.
 abbrev pub New : List ℕ → ℕ → Type 0

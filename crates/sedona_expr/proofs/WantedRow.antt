@@ -9,7 +9,7 @@ use mathlib.Core.List.{List, [], _∷_}
 use Prim.Native.Nat.{ℕ, zero, suc, _^_}
 use native.Mathlib.Omega.{arith}
 use lib.IntN.{pos}
-use lib.Ieee.{Float, nan, binary64, fits, add, sub, div, neg, lt, le, eq, isNan, round, ofInt}
+use lib.Ieee.{Float, nan, fin, binary64, fits, add, sub, div, neg, lt, le, eq, isNan, round, ofInt}
 use Rattle.sedona_geometry.specs.Float.{minNum, maxNum, abs}
 use Rattle.sedona_geometry.specs.Interval as interval
 use Rattle.sedona_geometry.specs.WraparoundInterval as wraparound
@@ -18,13 +18,14 @@ use Rattle.sedona_geometry.specs.Types.{fromBits}
 use Rattle.sedona_geometry.specs.declared.bounding_box.Dimension as Dimension
 use Rattle.sedona_geometry.specs.declared.bounding_box.Dimension.{Dimension}
 use Rattle.sedona_geometry.specs.declared.bounding_box.BoundingBox.{BoundingBox}
-use Rattle.sedona_geometry.proofs.Order.{fails}
+use Rattle.sedona_geometry.proofs.Booleans.{fails}
 use Rattle.sedona_expr.specs.Statistics as statistics
 use Rattle.sedona_expr.specs.SpatialFilter.{isZ, mayHaveZ}
+use Rattle.sedona_expr.specs.Names.{placeOf, hasTwice}
 use Rattle.sedona_expr.specs.Tables as tables
 use Rattle.sedona_expr.specs.Refusals as refusals
 use Rattle.sedona_expr.specs.Tables.{Records, Table, Lookup, byPosition, byName}
-use Rattle.sedona_expr.specs.Demand.{Row, WhereBox, Leaf, ofBox, aHasZ, Beside, Folds, Wanted, Each, isPoint, Numbers, Pointed, MayMatch, Reaches}
+use Rattle.sedona_expr.specs.Demand.{Row, WhereBox, Leaf, ofBox, aHasZ, Beside, Folds, Wanted, isPoint, Numbers, Pointed, MayMatch, Reaches}
 use Rattle.sedona_expr.specs.declared.statistics.Bbox as Bbox
 use Rattle.sedona_expr.specs.declared.statistics.Bbox.{Bbox}
 use Rattle.sedona_expr.specs.declared.statistics.GeometryTypes as GeometryTypes
@@ -37,6 +38,9 @@ use Rattle.sedona_expr.proofs.Demand3.{demand-3}
 
 abbrev plus : ℕ → Float
 plus n = ofInt binary64 (pos n)
+
+abbrev minus-zero : Float
+minus-zero = fin true 0 (pos 0)
 
 -- A box of x and y.
 abbrev flat : Float → Float → Float → Float → BoundingBox
@@ -117,7 +121,7 @@ lists (suc n) =
 
 -- ---- each column's list, for any of its leaves
 folds-0 : (f : Leaf) → Beside f (row 0) (only 9) → Folds f (lists 0) (row 0) (tables.recordAt r 0)
-unfolding fits add sub div neg lt le eq isNan round ofInt minNum maxNum abs interval.intersectsInterval interval.isEmpty interval.mergeInterval wraparound.isWraparound wraparound.split wraparound.mid wraparound.fromPieces wraparound.mergeWrapped wraparound.nearerLeft wraparound.mergePlain wraparound.mergeNonEmpty wraparound.mergeInterval boundingBox.joinKnown boundingBox.mergeBox statistics.leaves statistics.sumLeaves statistics.totalsOverflow statistics.countsOverflow statistics.mergeBboxes statistics.mergeTypes statistics.mergeParts statistics.mergeValue statistics.addTotals statistics.step statistics.foldFrom tables.boxWith tables.boxAt tables.typesAt
+unfolding fits add sub div neg lt le eq isNan round ofInt minNum maxNum abs interval.intersectsInterval interval.isEmpty interval.mergeInterval wraparound.isWraparound wraparound.split wraparound.mid wraparound.fromPieces wraparound.mergeWrapped wraparound.nearerLeft wraparound.mergePlain wraparound.mergeNonEmpty wraparound.mergeInterval boundingBox.joinKnown boundingBox.mergeBox statistics.isOutside statistics.sumIsOutside statistics.totalsOverflow statistics.countsOverflow statistics.mergeBboxes statistics.mergeTypes statistics.mergeParts statistics.mergeValue statistics.addTotals statistics.step statistics.foldFrom tables.boxWith tables.boxAt tables.typesAt
 folds-0 f h = record {
   doubles = (
     record { x = record { lo = tt; hi = tt }; y = record { lo = tt; hi = tt }; z = record { lo = tt; hi = tt }; m = tt },
@@ -130,7 +134,7 @@ folds-0 f h = record {
 }
 
 folds-1 : (f : Leaf) → Beside f (row 1) GeometryTypes.Missing → Folds f (lists 1) (row 1) (tables.recordAt r 1)
-unfolding fits add sub div neg lt le eq isNan round ofInt minNum maxNum abs interval.intersectsInterval interval.isEmpty interval.mergeInterval wraparound.isWraparound wraparound.split wraparound.mid wraparound.fromPieces wraparound.mergeWrapped wraparound.nearerLeft wraparound.mergePlain wraparound.mergeNonEmpty wraparound.mergeInterval boundingBox.joinKnown boundingBox.mergeBox statistics.leaves statistics.sumLeaves statistics.totalsOverflow statistics.countsOverflow statistics.mergeBboxes statistics.mergeTypes statistics.mergeParts statistics.mergeValue statistics.addTotals statistics.step statistics.foldFrom tables.boxWith tables.boxAt tables.typesAt
+unfolding fits add sub div neg lt le eq isNan round ofInt minNum maxNum abs interval.intersectsInterval interval.isEmpty interval.mergeInterval wraparound.isWraparound wraparound.split wraparound.mid wraparound.fromPieces wraparound.mergeWrapped wraparound.nearerLeft wraparound.mergePlain wraparound.mergeNonEmpty wraparound.mergeInterval boundingBox.joinKnown boundingBox.mergeBox statistics.isOutside statistics.sumIsOutside statistics.totalsOverflow statistics.countsOverflow statistics.mergeBboxes statistics.mergeTypes statistics.mergeParts statistics.mergeValue statistics.addTotals statistics.step statistics.foldFrom tables.boxWith tables.boxAt tables.typesAt
 folds-1 f h = record {
   doubles = (
     record { x = record { lo = tt; hi = tt }; y = record { lo = tt; hi = tt }; z = tt; m = tt },
@@ -153,7 +157,7 @@ unfolding fits round ofInt
 row-doubles zero = record { x = record { lo = tt; hi = tt }; y = record { lo = tt; hi = tt }; z = record { lo = tt; hi = tt }; m = tt }
 row-doubles (suc i) = record { x = record { lo = tt; hi = tt }; y = record { lo = tt; hi = tt }; z = tt; m = tt }
 
-row-point : (i : ℕ) → WhereBox (Each isPoint) (row i .bbox)
+row-point : (i : ℕ) → WhereBox (boundingBox.Each isPoint) (row i .bbox)
 unfolding eq isNan round ofInt
 row-point zero = record { x = (refl, refl); y = (refl, refl); z = (refl, refl); m = tt }
 row-point (suc i) = record { x = (refl, refl); y = (refl, refl); z = tt; m = tt }
@@ -161,7 +165,7 @@ row-point (suc i) = record { x = (refl, refl); y = (refl, refl); z = tt; m = tt 
 -- ---- the hypotheses, for any call that finds the two columns
 module _ (l : Lookup) (wellFormed : refusals.refusal l t r ≡ 0) (first : tables.place l (tables.column 0 7) ≡ 0) (second : tables.place l (tables.column 1 9) ≡ 1) where
   wanted : Wanted l t r row lists
-  unfolding isZ fits sub neg lt le eq isNan round ofInt interval.intersectsValue interval.containsInterval interval.isEmpty wraparound.isWraparound wraparound.split wraparound.intersectsValue wraparound.piecesContain wraparound.containsInterval boundingBox.testKnown boundingBox.contains tables.boxWith tables.boxAt tables.orEmpty tables.leafOf tables.pairOf tables.areBelow tables.treeOf tables.treeAt
+  unfolding isZ fits sub neg lt le eq isNan round ofInt interval.intersectsValue interval.containsInterval interval.isEmpty wraparound.isWraparound wraparound.split wraparound.intersectsValue wraparound.piecesContain wraparound.containsInterval boundingBox.testKnown boundingBox.contains tables.boxWith tables.boxAt tables.orEmpty tables.leafOf tables.pairOf tables.areBelow tables.hasChildren tables.alone tables.treeOf tables.treeAt
   wanted = record {
     wellFormed = wellFormed;
     exist = rw (first, second) (((omega arith, tt), omega arith), (omega arith, omega arith));
@@ -181,7 +185,7 @@ module _ (l : Lookup) (wellFormed : refusals.refusal l t r ≡ 0) (first : table
   }
 
   pointed : Numbers l names → Pointed l t r row names
-  unfolding tables.placeOf refusals.hasTwice fits neg lt le eq isNan round ofInt tables.boxWith tables.boxAt tables.orEmpty tables.leafOf tables.pairOf tables.areBelow tables.treeOf tables.treeAt
+  unfolding placeOf hasTwice fits neg lt le eq isNan round ofInt tables.boxWith tables.boxAt tables.orEmpty tables.leafOf tables.pairOf tables.areBelow tables.hasChildren tables.alone tables.treeOf tables.treeAt
   pointed numbers = record {
     numbers = numbers;
     columns = omega arith;
@@ -201,7 +205,7 @@ module _ (l : Lookup) (wellFormed : refusals.refusal l t r ≡ 0) (first : table
 
 -- ---- each call
 pub by-position : MayMatch byPosition t r × Reaches t row names
-unfolding refusals.orElse refusals.wordsRefusal refusals.goodFlag refusals.boxesRefusal refusals.typesRefusal refusals.namesRefusal refusals.twiceRefusal refusals.recordsRefusal tables.areBelow refusals.pairRefusal refusals.isLent refusals.columnRefusal refusals.leafRefusal refusals.nodeRefusal refusals.usesBy refusals.usesRefusal refusals.tableRefusal refusals.treeRefusal refusals.refusal tables.place
+unfolding refusals.orElse refusals.wordsRefusal refusals.goodFlag refusals.literalsRefusal refusals.lengthsRefusal refusals.valuesRefusal refusals.wrongNames refusals.twiceRefusal refusals.recordsRefusal tables.areBelow refusals.pairRefusal refusals.isLent refusals.columnRefusal refusals.leafRefusal refusals.nodeRefusal refusals.usesBy refusals.usesRefusal refusals.tableRefusal refusals.treeRefusal refusals.refusal tables.place
 by-position = both-halves byPosition refl refl refl tt
 
 lent-numbers : Numbers (byName lent) names
@@ -210,7 +214,7 @@ lent-numbers (suc zero) h = refl
 lent-numbers (suc (suc i)) h = absurd (omega arith)
 
 pub by-name : MayMatch (byName lent) t r × Reaches t row names
-unfolding refusals.orElse refusals.wordsRefusal refusals.goodFlag refusals.boxesRefusal refusals.typesRefusal tables.placeOf refusals.hasTwice refusals.namesRefusal refusals.twiceRefusal refusals.recordsRefusal tables.areBelow refusals.pairRefusal refusals.isLent refusals.columnRefusal refusals.leafRefusal refusals.nodeRefusal refusals.usesBy refusals.usesRefusal refusals.tableRefusal refusals.treeRefusal refusals.refusal tables.place
+unfolding refusals.orElse refusals.wordsRefusal refusals.goodFlag refusals.literalsRefusal refusals.lengthsRefusal refusals.valuesRefusal refusals.wrongNames placeOf hasTwice refusals.twiceRefusal refusals.recordsRefusal tables.areBelow refusals.pairRefusal refusals.isLent refusals.columnRefusal refusals.leafRefusal refusals.nodeRefusal refusals.usesBy refusals.usesRefusal refusals.tableRefusal refusals.treeRefusal refusals.refusal tables.place
 by-name = both-halves (byName lent) refl refl refl lent-numbers
 
 -- ---- a Covers whose literal wraps: of the row's own record, which wraps, and one with NaN
@@ -230,7 +234,7 @@ wrapped-lists n =
     ∷ []
 
 wrapped-folds : Folds (ofBox (flat (plus 175) (neg (plus 175)) (plus 5) (plus 5))) (wrapped-lists 0) (wrapped-row 0) (tables.recordAt wrapped-fold 0)
-unfolding fits add sub div neg lt le eq isNan round ofInt minNum maxNum abs interval.intersectsInterval interval.isEmpty interval.mergeInterval wraparound.isWraparound wraparound.split wraparound.mid wraparound.fromPieces wraparound.mergeWrapped wraparound.nearerLeft wraparound.mergePlain wraparound.mergeNonEmpty wraparound.mergeInterval boundingBox.joinKnown boundingBox.mergeBox statistics.leaves statistics.sumLeaves statistics.totalsOverflow statistics.countsOverflow statistics.mergeBboxes statistics.mergeTypes statistics.mergeParts statistics.mergeValue statistics.addTotals statistics.step statistics.foldFrom tables.boxWith tables.boxAt tables.typesAt
+unfolding fits add sub div neg lt le eq isNan round ofInt minNum maxNum abs interval.intersectsInterval interval.isEmpty interval.mergeInterval wraparound.isWraparound wraparound.split wraparound.mid wraparound.fromPieces wraparound.mergeWrapped wraparound.nearerLeft wraparound.mergePlain wraparound.mergeNonEmpty wraparound.mergeInterval boundingBox.joinKnown boundingBox.mergeBox statistics.isOutside statistics.sumIsOutside statistics.totalsOverflow statistics.countsOverflow statistics.mergeBboxes statistics.mergeTypes statistics.mergeParts statistics.mergeValue statistics.addTotals statistics.step statistics.foldFrom tables.boxWith tables.boxAt tables.typesAt
 wrapped-folds = record {
   doubles = (
     record { x = record { lo = tt; hi = tt }; y = record { lo = tt; hi = tt }; z = tt; m = tt },
@@ -243,8 +247,47 @@ wrapped-folds = record {
 }
 
 wrapped-wanted : Wanted byPosition wrapped-table wrapped-fold wrapped-row wrapped-lists
-unfolding sub neg lt le eq isNan round ofInt interval.containsInterval interval.isEmpty wraparound.isWraparound wraparound.split wraparound.piecesContain wraparound.containsInterval boundingBox.testKnown boundingBox.contains tables.boxWith tables.boxAt tables.orEmpty tables.leafOf tables.pairOf tables.areBelow tables.treeOf tables.treeAt refusals.orElse refusals.wordsRefusal refusals.goodFlag refusals.boxesRefusal refusals.typesRefusal refusals.namesRefusal refusals.twiceRefusal refusals.recordsRefusal refusals.pairRefusal refusals.isLent refusals.columnRefusal refusals.leafRefusal refusals.nodeRefusal refusals.usesBy refusals.usesRefusal refusals.tableRefusal refusals.treeRefusal refusals.refusal tables.place
+unfolding sub neg lt le eq isNan round ofInt interval.containsInterval interval.isEmpty wraparound.isWraparound wraparound.split wraparound.piecesContain wraparound.containsInterval boundingBox.testKnown boundingBox.contains tables.boxWith tables.boxAt tables.orEmpty tables.leafOf tables.pairOf tables.areBelow tables.hasChildren tables.alone tables.treeOf tables.treeAt refusals.orElse refusals.wordsRefusal refusals.goodFlag refusals.literalsRefusal refusals.lengthsRefusal refusals.valuesRefusal refusals.wrongNames refusals.twiceRefusal refusals.recordsRefusal refusals.pairRefusal refusals.isLent refusals.columnRefusal refusals.leafRefusal refusals.nodeRefusal refusals.usesBy refusals.usesRefusal refusals.tableRefusal refusals.treeRefusal refusals.refusal tables.place
 wrapped-wanted = record { wellFormed = refl; exist = omega arith; holds = refl; folds = wrapped-folds }
 
 pub a-wrapped-literal : MayMatch byPosition wrapped-table wrapped-fold
 a-wrapped-literal = demand-3 byPosition wrapped-table wrapped-fold wrapped-row wrapped-lists wrapped-wanted .0
+
+-- ---- a row that lies at −0. Its record comes to the list through a fold of its own, which gives +0
+abbrev signed : Bbox
+signed = Bbox.Known (record { x = record { inner = record { lo = minus-zero; hi = minus-zero } }; y = record { lo = minus-zero; hi = minus-zero }; z = Dimension.Missing; m = Dimension.Missing })
+
+abbrev signed-row : Row
+signed-row n = record { bbox = signed; bit = 1 }
+
+abbrev signed-lists : ℕ → List GeoStatistics
+signed-lists n =
+    statistics.fold (reading signed GeometryTypes.Missing (pos 1) ∷ []) .rec
+    ∷ reading (Bbox.Known (flat (plus 3) (plus 6) (plus 6) (plus 8))) GeometryTypes.Missing (pos 2)
+    ∷ []
+
+abbrev signed-table : Table
+signed-table = tables.table (1 ∷ 0 ∷ 7 ∷ 0 ∷ []) (ends (plus 0) (plus 0) (plus 0) (plus 0) (plus 0) (plus 0) []) (1 ∷ [])
+
+abbrev signed-fold : Records
+signed-fold = tables.records (ends (plus 0) (plus 6) (plus 0) (plus 8) (plus 0) (plus 0) []) (1 ∷ []) (0 ∷ []) (0 ∷ [])
+
+signed-folds : Folds (ofBox (flat (plus 0) (plus 0) (plus 0) (plus 0))) (signed-lists 0) (signed-row 0) (tables.recordAt signed-fold 0)
+unfolding fits add sub div neg lt le eq isNan round ofInt minNum maxNum abs interval.intersectsInterval interval.isEmpty interval.mergeInterval wraparound.isWraparound wraparound.split wraparound.mid wraparound.fromPieces wraparound.mergeWrapped wraparound.nearerLeft wraparound.mergePlain wraparound.mergeNonEmpty wraparound.mergeInterval boundingBox.joinKnown boundingBox.mergeBox statistics.isOutside statistics.sumIsOutside statistics.totalsOverflow statistics.countsOverflow statistics.mergeBboxes statistics.mergeTypes statistics.mergeParts statistics.mergeValue statistics.addTotals statistics.step statistics.foldFrom tables.boxWith tables.boxAt tables.typesAt
+signed-folds = record {
+  doubles = (
+    record { x = record { lo = tt; hi = tt }; y = record { lo = tt; hi = tt }; z = tt; m = tt },
+    (record { x = record { lo = tt; hi = tt }; y = record { lo = tt; hi = tt }; z = tt; m = tt }, tt),
+  );
+  has = tt;
+  among = inl (refl, tt);
+  fit = refl;
+  folded = refl;
+}
+
+signed-wanted : Wanted byPosition signed-table signed-fold signed-row signed-lists
+unfolding sub neg lt le eq isNan round ofInt interval.containsInterval interval.isEmpty wraparound.isWraparound wraparound.split wraparound.piecesContain wraparound.containsInterval boundingBox.testKnown boundingBox.contains tables.boxWith tables.boxAt tables.orEmpty tables.leafOf tables.pairOf tables.areBelow tables.hasChildren tables.alone tables.treeOf tables.treeAt refusals.orElse refusals.wordsRefusal refusals.goodFlag refusals.literalsRefusal refusals.lengthsRefusal refusals.valuesRefusal refusals.wrongNames refusals.twiceRefusal refusals.recordsRefusal refusals.pairRefusal refusals.isLent refusals.columnRefusal refusals.leafRefusal refusals.nodeRefusal refusals.usesBy refusals.usesRefusal refusals.tableRefusal refusals.treeRefusal refusals.refusal tables.place
+signed-wanted = record { wellFormed = refl; exist = omega arith; holds = refl; folds = signed-folds }
+
+pub a-row-at-minus-zero : MayMatch byPosition signed-table signed-fold
+a-row-at-minus-zero = demand-3 byPosition signed-table signed-fold signed-row signed-lists signed-wanted .0

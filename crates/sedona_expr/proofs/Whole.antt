@@ -10,8 +10,9 @@ use lib.Dec.{T, ltb, ltb→lt, lt→ltb, nltb→le}
 use lib.Signed.{ltZ}
 use mir.Syntax.{w64}
 use mir.Val.{SFits}
-use Rattle.sedona_expr.specs.Statistics.{least, most, leaves}
-use Rattle.sedona_geometry.proofs.Order.{fails, or-left, or-right, or-cases, ℕ-le-or-lt}
+use Rattle.sedona_expr.specs.Statistics.{least, most, isOutside}
+use Rattle.sedona_geometry.proofs.Booleans.{fails, or-left, or-right, or-cases}
+use Rattle.sedona_geometry.proofs.Order.{ℕ-le-or-lt}
 
 -- z is up z - down z
 abbrev up : ℤ → ℕ
@@ -61,21 +62,21 @@ same-test true false h k = absurd (h tt)
 same-test false true h k = absurd (k tt)
 same-test false false h k = refl
 
-leaves→ : (z : ℤ) → T (leaves z) → (2 ^ 63 + up z < down z) ⊎ (2 ^ 63 - 1 + down z < up z)
-unfolding leaves
-leaves→ z h =
+outside→ : (z : ℤ) → T (isOutside z) → (2 ^ 63 + up z < down z) ⊎ (2 ^ 63 - 1 + down z < up z)
+unfolding isOutside
+outside→ z h =
     elim (or-cases (ltZ z least) (ltZ most z) h) [
       | inl a ↦ inl (omega (arith, lt↔ z least .0 a))
       | inr b ↦ inr (omega (arith, lt↔ most z .0 b))
     ]
 
-→leaves-down : (z : ℤ) → 2 ^ 63 + up z < down z → T (leaves z)
-unfolding leaves
-→leaves-down z h = or-left (ltZ z least) (ltZ most z) (lt↔ z least .1 (omega arith))
+→outside-down : (z : ℤ) → 2 ^ 63 + up z < down z → T (isOutside z)
+unfolding isOutside
+→outside-down z h = or-left (ltZ z least) (ltZ most z) (lt↔ z least .1 (omega arith))
 
-→leaves-up : (z : ℤ) → 2 ^ 63 - 1 + down z < up z → T (leaves z)
-unfolding leaves
-→leaves-up z h = or-right (ltZ z least) (ltZ most z) (lt↔ most z .1 (omega arith))
+→outside-up : (z : ℤ) → 2 ^ 63 - 1 + down z < up z → T (isOutside z)
+unfolding isOutside
+→outside-up z h = or-right (ltZ z least) (ltZ most z) (lt↔ most z .1 (omega arith))
 
 not-below : (b : ℤ) → (T (ltZ b (pos 0)) → ⊥) → down b ≡ 0
 not-below (pos n) h = refl
@@ -84,11 +85,11 @@ not-below (negsuc n) h = absurd (h tt)
 ℕ-not-lt : (a b : ℕ) → (a < b → ⊥) → b ≤ a
 ℕ-not-lt a b h = elim (ℕ-le-or-lt b a) [ inl k ↦ k | inr k ↦ absurd (h k) ]
 
-not-down : (z : ℤ) → leaves z ≡ false → down z ≤ 2 ^ 63 + up z
-not-down z e = ℕ-not-lt (2 ^ 63 + up z) (down z) (λ h. fails e (→leaves-down z h))
+not-down : (z : ℤ) → isOutside z ≡ false → down z ≤ 2 ^ 63 + up z
+not-down z e = ℕ-not-lt (2 ^ 63 + up z) (down z) (λ h. fails e (→outside-down z h))
 
-not-up : (z : ℤ) → leaves z ≡ false → up z ≤ 2 ^ 63 - 1 + down z
-not-up z e = ℕ-not-lt (2 ^ 63 - 1 + down z) (up z) (λ h. fails e (→leaves-up z h))
+not-up : (z : ℤ) → isOutside z ≡ false → up z ≤ 2 ^ 63 - 1 + down z
+not-up z e = ℕ-not-lt (2 ^ 63 - 1 + down z) (up z) (λ h. fails e (→outside-up z h))
 
 -- ---- the test that the code makes before it adds
 module _ (a b : ℤ) (A : SFits w64 a) (B : SFits w64 b) where
@@ -101,7 +102,7 @@ module _ (a b : ℤ) (A : SFits w64 a) (B : SFits w64 b) where
       let g = neg-up b in
       →fits (least -ℤ b) (omega arith) (omega arith)
 
-  pub below-is : T (ltZ b (pos 0)) → ltZ a (least -ℤ b) ≡ leaves (a +ℤ b)
+  pub below-is : T (ltZ b (pos 0)) → ltZ a (least -ℤ b) ≡ isOutside (a +ℤ b)
   below-is n =
       let f = fits→ a A in
       let h = fits→ b B in
@@ -109,9 +110,9 @@ module _ (a b : ℤ) (A : SFits w64 a) (B : SFits w64 b) where
       let e = add-diff least (negℤ b) in
       let g = neg-up b in
       let d = add-diff a b in
-      same-test (ltZ a (least -ℤ b)) (leaves (a +ℤ b))
-      (λ t. →leaves-down (a +ℤ b) (omega (arith, lt↔ a (least -ℤ b) .0 t)))
-      (λ t. elim (leaves→ (a +ℤ b) t) [ inl u ↦ lt↔ a (least -ℤ b) .1 (omega arith) | inr u ↦ absurd (omega arith) ])
+      same-test (ltZ a (least -ℤ b)) (isOutside (a +ℤ b))
+      (λ t. →outside-down (a +ℤ b) (omega (arith, lt↔ a (least -ℤ b) .0 t)))
+      (λ t. elim (outside→ (a +ℤ b) t) [ inl u ↦ lt↔ a (least -ℤ b) .1 (omega arith) | inr u ↦ absurd (omega arith) ])
 
   -- b ≥ 0
   pub most-minus-fits : (T (ltZ b (pos 0)) → ⊥) → SFits w64 (most -ℤ b)
@@ -122,7 +123,7 @@ module _ (a b : ℤ) (A : SFits w64 a) (B : SFits w64 b) where
       let g = neg-up b in
       →fits (most -ℤ b) (omega arith) (omega arith)
 
-  pub above-is : (T (ltZ b (pos 0)) → ⊥) → ltZ (most -ℤ b) a ≡ leaves (a +ℤ b)
+  pub above-is : (T (ltZ b (pos 0)) → ⊥) → ltZ (most -ℤ b) a ≡ isOutside (a +ℤ b)
   above-is n =
       let f = fits→ a A in
       let h = fits→ b B in
@@ -130,9 +131,9 @@ module _ (a b : ℤ) (A : SFits w64 a) (B : SFits w64 b) where
       let e = add-diff most (negℤ b) in
       let g = neg-up b in
       let d = add-diff a b in
-      same-test (ltZ (most -ℤ b) a) (leaves (a +ℤ b))
-      (λ t. →leaves-up (a +ℤ b) (omega (arith, lt↔ (most -ℤ b) a .0 t)))
-      (λ t. elim (leaves→ (a +ℤ b) t) [ inl u ↦ absurd (omega arith) | inr u ↦ lt↔ (most -ℤ b) a .1 (omega arith) ])
+      same-test (ltZ (most -ℤ b) a) (isOutside (a +ℤ b))
+      (λ t. →outside-up (a +ℤ b) (omega (arith, lt↔ (most -ℤ b) a .0 t)))
+      (λ t. elim (outside→ (a +ℤ b) t) [ inl u ↦ absurd (omega arith) | inr u ↦ lt↔ (most -ℤ b) a .1 (omega arith) ])
 
-pub stays-fits : (z : ℤ) → leaves z ≡ false → SFits w64 z
+pub stays-fits : (z : ℤ) → isOutside z ≡ false → SFits w64 z
 stays-fits z e = →fits z (omega (arith, not-up z e)) (omega (arith, not-down z e))

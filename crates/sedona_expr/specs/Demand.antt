@@ -9,15 +9,14 @@ use Prim.Native.Nat.{ℕ, _≤_, _<_}
 use lib.Dec.{T}
 use lib.ListN.{length, getD}
 use lib.Ieee.{binary64, fits, le, eq}
+use Rattle.sedona_geometry.specs.Lists.{All}
 use Rattle.sedona_geometry.specs.Interval as interval
 use Rattle.sedona_geometry.specs.BoundingBox as boundingBox
 use Rattle.sedona_geometry.specs.Types as types
 use Rattle.sedona_geometry.specs.declared.interval.Interval.{Interval}
-use Rattle.sedona_geometry.specs.declared.bounding_box.Dimension.{Dimension}
-use Rattle.sedona_geometry.specs.declared.bounding_box.Dimension as Dimension
 use Rattle.sedona_geometry.specs.declared.bounding_box.BoundingBox.{BoundingBox}
 use Rattle.sedona_geometry.specs.declared.types.GeometryTypeAndDimensionsSet.{GeometryTypeAndDimensionsSet}
-use Rattle.sedona_expr.specs.Statistics.{All, fold}
+use Rattle.sedona_expr.specs.Statistics.{fold}
 use Rattle.sedona_expr.specs.Statistics as statistics
 use Rattle.sedona_expr.specs.SpatialFilter.{Column, Filter, intersects, covers, hasZ, and, or, literalFalse, unknown, isZ}
 use Rattle.sedona_expr.specs.Tables.{Records, recordAt, Table, root, Lookup, byPosition, byName, place}
@@ -34,7 +33,7 @@ use Rattle.sedona_expr.specs.declared.spatial_filter.Evaluation.{Evaluat
 
 -- ---- rows and filters
 
--- "A row gives each named column a box, its own box there; any other column has a box of it or none." Beside the box stands the bit of its type,
+-- "A row gives each named column a box, its own box there" .. "any other column has a box of it or none." Beside the box stands the bit of its type,
 -- 0 to 31. (A number past them is no type's, and a HasZ does not hold of it.)
 pub record Cell : Type 0 where
   pub bbox : Bbox
@@ -53,24 +52,19 @@ abbrev pub HasBox : (BoundingBox → Type 0) → Bbox → Type 0
 HasBox P Bbox.Missing = ⊥
 HasBox P (Bbox.Known b) = P b
 
--- Of an interval, where it is known.
-abbrev pub WhereKnown : (Interval → Type 0) → Dimension → Type 0
-WhereKnown P Dimension.Missing = Unit {0}
-WhereKnown P (Dimension.Known i) = P i
-
 abbrev pub lowToHigh : Interval → Bool
 lowToHigh i = le (i .lo) (i .hi)
 
 -- "z missing or running low to high"
 abbrev pub MissingOrRising : BoundingBox → Type 0
-MissingOrRising b = WhereKnown (λ i. lowToHigh i ≡ true) (b .z)
+MissingOrRising b = boundingBox.WhereKnown (λ i. lowToHigh i ≡ true) (b .z)
 
 -- "HasZ holds of a row with a box, a Z type, and z missing or running low to high"
 pub record HoldsZ (own : Cell) : Type 0 where
   pub z : HasBox MissingOrRising (own .bbox)
   pub type : isZ (own .bit) ≡ true
 
--- "any row of which it holds": Intersects where row box and literal have a common number in x, y, and in z and m where both have them; Covers
+-- A row of which the filter holds: Intersects where row box and literal have a common number in x, y, and in z and m where both have them; Covers
 -- where `contains` is true of row box and literal; HasZ as said above; And both, Or either, Unknown always, LiteralFalse never.
 abbrev pub Holds : (Column → Cell) → Filter → Type 0
 Holds own (intersects c k) = HasBox (λ b. boundingBox.Common b k) (own c .bbox)
@@ -131,10 +125,10 @@ seen s = record { bbox = s .bbox; types = s .«geometry_types» }
 pub record Folds (f : Leaf) (rs : List GeoStatistics) (own : Cell) (lent : ColumnRecord) : Type 0 where
   -- Their ends are doubles.
   pub doubles : All (λ s. statistics.DoublesWhereKnown (s .bbox)) rs
-  -- "the row's own box is among them"; it has one.
+  -- The row's own box is among the records; it has one. The sign of a zero does not matter: a box that a call has handed on has +0.
   pub has : HasBox (λ b. Unit {0}) (own .bbox)
-  pub among : Some (λ s. (s .bbox ≡ own .bbox) × Beside f own (s .«geometry_types»)) rs
-  -- "totals fit at every merge step": no step meets number 3
+  pub among : Some (λ s. (statistics.plusZeroWhereKnown (s .bbox) ≡ statistics.plusZeroWhereKnown (own .bbox)) × Beside f own (s .«geometry_types»)) rs
+  -- "Totals fit where no step meets number 3"
   pub fit : fold rs .number ≡ 0
   -- "the record of each named column being its fold", its box and its types
   pub folded : lent ≡ seen (fold rs .rec)
@@ -143,22 +137,15 @@ pub record Folds (f : Leaf) (rs : List GeoStatistics) (own : Cell) (lent : Colum
 
 -- Of the first half. (The column of a leaf is `place l c`.)
 pub record Wanted (l : Lookup) (t : Table) (r : Records) (row : Row) (lists : ℕ → List GeoStatistics) : Type 0 where
-  -- "well-formed tables": the lent inputs fit none of the numbers from 4 up
+  -- "Tables are well formed where the lent inputs fit none of the numbers from 4 up"
   pub wellFormed : refusal l t r ≡ 0
-  -- "its named columns all existing": a record is lent for each
+  -- each named column exists: "it exists where a record is lent for it"
   pub exist : EachLeaf (λ f c. place l c < length (r .boxes .flags)) (root t)
-  -- "any row of which it holds"
+  -- the filter holds of the row
   pub holds : Holds (λ c. row (place l c)) (root t)
-  -- "Whatever records each named column's list has .., if the row's own box is among them, totals fit at every merge step": "wrapped and NaN
+  -- whatever records each named column's list has, if the row's own box is among them and totals fit: "wrapped and NaN
   -- records included, and the literal's x may run any way"
   pub folds : EachLeaf (λ f c. Folds f (lists (place l c)) (row (place l c)) (recordAt r (place l c))) (root t)
-
--- Of x, y, and of z and m where they are known.
-pub record Each (P : Interval → Type 0) (b : BoundingBox) : Type 0 where
-  pub x : P (b .x .inner)
-  pub y : P (b .y)
-  pub z : WhereKnown P (b .z)
-  pub m : WhereKnown P (b .m)
 
 -- "A point has low equal to high in x, y and each of z and m that it knows"; "A NaN at either end counts as having NaN."
 abbrev pub isPoint : Interval → Type 0
@@ -177,22 +164,22 @@ pub record Pointed (l : Lookup) (t : Table) (r : Records) (row : Row) (names : L
   -- the ends are doubles
   pub literals : All (λ d. T (fits binary64 d)) (t .literals .doubles)
   pub doubles : (i : ℕ) → i < length names → WhereBox boundingBox.Doubles (row i .bbox)
-  -- "the row is a point without NaN"
-  pub point : (i : ℕ) → i < length names → WhereBox (Each isPoint) (row i .bbox)
-  -- "each leaf names its own column" (each that has a literal: a HasZ is as an Unknown here)
+  -- the row is a point without NaN
+  pub point : (i : ℕ) → i < length names → WhereBox (boundingBox.Each isPoint) (row i .bbox)
+  -- each leaf names its own column (each that has a literal: a HasZ is as an Unknown here)
   pub ownNames : EachLeaf (λ f c. OfLiteral (λ k. c .name ≡ getD names (place l c) 0) f) (root t)
   -- "names differ": no two columns share a number
   pub differ : (i j : ℕ) → i < length names → j < length names → getD names i 0 ≡ getD names j 0 → i ≡ j
-  -- "all literals run low to high": every known dimension of every literal that a leaf names
-  pub lowToHigh : EachLeaf (λ f c. OfLiteral (Each (λ i. lowToHigh i ≡ true)) f) (root t)
+  -- "all literals low to high": every known dimension of every literal that a leaf names
+  pub lowToHigh : EachLeaf (λ f c. OfLiteral (boundingBox.Each (λ i. lowToHigh i ≡ true)) f) (root t)
 
 -- ---- the conclusions
 
--- "then the filter held against these folds answers 'may match'"
+-- then the filter, held against these folds, may match
 abbrev pub MayMatch : Lookup → Table → Records → Type 0
 MayMatch l t r = _≡_ {A = Evaluation} (evaluate l t r) Evaluation.MayMatch
 
--- "then `contains` is true of each column's filter box and the row's box there"
+-- then `contains` is true of each column's filter box and the row's box there
 abbrev pub Reaches : Table → Row → List ℕ → Type 0
 Reaches t row names =
     (i : ℕ)

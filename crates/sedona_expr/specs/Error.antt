@@ -13,8 +13,9 @@ unknownKind = 5
 abbrev pub badTree : ℕ
 badTree = 7
 
-abbrev pub boxes : ℕ
-boxes = 8
+-- Lists of other lengths than they should have, or a bad flag or byte in one.
+abbrev pub badLists : ℕ
+badLists = 8
 
 abbrev pub noLiteral : ℕ
 noLiteral = 9

@@ -7,4 +7,5 @@ pub mod Refusals
 pub mod SpatialFilter
 pub mod Statistics
 pub mod Tables
+pub mod Within
 pub mod WithoutHasZ

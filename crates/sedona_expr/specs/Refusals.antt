@@ -1,96 +1,98 @@
 -- What refuses a filter call: each definition is a number of the desk (Error), or 0 where it does not apply. `refusal` and `boxRefusal`, at the
 -- end, are the order of 01.
-use mathlib.Core.Path.{_≡_}
 use mathlib.Core.Bool.{Bool, true, false, not, _&&_, _||_, cond}
-use mathlib.Core.List.{List, [], _∷_}
-use Prim.Native.Nat.{ℕ, zero, suc, _+_, _-_, _*_, _%_, _≤_, _<_}
+use mathlib.Core.List.{List}
+use Prim.Native.Nat.{ℕ, zero, suc, _+_, _-_, _*_, _%_}
 use lib.Dec.{eqb, ltb}
-use lib.ListN.{length, getD}
+use lib.ListN.{length}
+use Rattle.sedona_geometry.specs.Lists.{areAll}
 use Rattle.sedona_expr.specs.Error as error
-use Rattle.sedona_expr.specs.Tables.{Boxes, Records, Table, word, kind, count, isPair, isLeaf, areBelow, Lookup, byPosition, byName, placeOf}
+use Rattle.sedona_expr.specs.Names.{hasTwice}
+use Rattle.sedona_expr.specs.Tables.{ends, flagLimit, Boxes, Records, Table, word, kind, count, isPair, isLeaf, areBelow, Lookup, byPosition, byName}
+use Rattle.sedona_expr.specs.declared.refusals.Count.{Count}
+use Rattle.sedona_expr.specs.declared.refusals.Count.the-variants.{Any, Of}
+use Rattle.sedona_expr.specs.declared.refusals.Lent.{Lent}
 
 -- The first of two numbers that is not 0.
 unfoldable pub orElse : ℕ → ℕ → ℕ
 orElse m n = cond (eqb m 0) n m
 
 -- The number where it is so.
-abbrev pub when : Bool → ℕ → ℕ
-when b n = cond b n 0
+abbrev pub refuseIf : Bool → ℕ → ℕ
+refuseIf b n = cond b n 0
 
 -- ---- the lists
 
 -- 4: node words none, not in fours, or over 4,096.
 unfoldable pub wordsRefusal : List ℕ → ℕ
-wordsRefusal ns = when (eqb (length ns) 0 || not (eqb (length ns % 4) 0) || ltb 4096 (length ns)) error.words
+wordsRefusal ns = refuseIf (eqb (length ns) 0 || not (eqb (length ns % 4) 0) || ltb 4096 (length ns)) error.words
 
-abbrev pub all : {A : Type 0} → (A → Bool) → List A → Bool
-all p [] = true
-all p (x ∷ xs) = p x && all p xs
-
--- A literal's flags are 1, 3, 5 or 7; a record's may be 0 too.
+-- A flag that has a box is odd; a record's may be 0 too.
 unfoldable pub goodFlag : Bool → ℕ → Bool
-goodFlag none f = cond (eqb f 0) none (eqb f 1 || eqb f 3 || eqb f 5 || eqb f 7)
+goodFlag none f = ltb f flagLimit && (eqb (f % 2) 1 || (none && eqb f 0))
 
--- 8: doubles not eight a flag, or bad flags.
-unfoldable pub boxesRefusal : Bool → Boxes → ℕ
-boxesRefusal none b = when (not (eqb (length (b .doubles)) (8 * length (b .flags))) || not (all (goodFlag none) (b .flags))) error.boxes
+-- Not so many doubles as the flags ask for.
+abbrev pub wrongDoubles : Boxes → Bool
+wrongDoubles b = not (eqb (length (b .doubles)) (ends * length (b .flags)))
 
--- 8: types or known bytes "unlike the record count", or a byte that is not "0 or 1".
-unfoldable pub typesRefusal : List ℕ → List ℕ → ℕ → ℕ
-typesRefusal ts ks records = when (not (eqb (length ts) records) || not (eqb (length ks) records) || not (all (λ b. ltb b 2) ks)) error.boxes
+-- 8: not so many doubles, or bad flags.
+unfoldable pub literalsRefusal : Boxes → ℕ
+literalsRefusal b = refuseIf (wrongDoubles b || not (areAll (goodFlag false) (b .flags))) error.badLists
 
--- 8, by name: name and record counts differ.
-unfoldable pub namesRefusal : Lookup → ℕ → ℕ
-namesRefusal byPosition records = 0
-namesRefusal (byName ns) records = when (not (eqb (length ns) records)) error.boxes
+-- By name: as many names as records.
+unfoldable pub wrongNames : Lookup → ℕ → Bool
+wrongNames byPosition records = false
+wrongNames (byName ns) records = not (eqb (length ns) records)
 
-abbrev pub isAmong : ℕ → List ℕ → Bool
-isAmong n ns = ltb (placeOf ns n) (length ns)
+-- 8: the lists of the records do not fit: doubles, types or known bytes "unlike the record count", or by name the names.
+unfoldable pub lengthsRefusal : Lookup → Records → ℕ
+lengthsRefusal l r =
+    let n = length (r .boxes .flags) in
+    refuseIf (wrongDoubles (r .boxes) || not (eqb (length (r .types)) n) || not (eqb (length (r .known)) n) || wrongNames l n) error.badLists
 
-unfoldable pub hasTwice : List ℕ → Bool
-hasTwice [] = false
-hasTwice (n ∷ ns) = isAmong n ns || hasTwice ns
+-- 8: bad flags, or a known byte that is not "0 or 1".
+unfoldable pub valuesRefusal : List ℕ → List ℕ → ℕ
+valuesRefusal fs ks = refuseIf (not (areAll (goodFlag true) fs) || not (areAll (λ b. ltb b 2) ks)) error.badLists
 
 -- 11, by name: a name number twice among the records.
 unfoldable pub twiceRefusal : Lookup → ℕ
 twiceRefusal byPosition = 0
-twiceRefusal (byName ns) = when (hasTwice ns) error.nameTwice
+twiceRefusal (byName ns) = refuseIf (hasTwice ns) error.nameTwice
 
 -- Of the records: 8, then 11.
 unfoldable pub recordsRefusal : Lookup → Records → ℕ
-recordsRefusal l r =
-    let n = length (r .boxes .flags) in
-    orElse (boxesRefusal true (r .boxes)) (orElse (typesRefusal (r .types) (r .known) n) (orElse (namesRefusal l n) (twiceRefusal l)))
+recordsRefusal l r = orElse (lengthsRefusal l r) (orElse (valuesRefusal (r .boxes .flags) (r .known)) (twiceRefusal l))
 
 -- ---- node by node
 
--- The index is lent, where it is asked for.
-unfoldable pub isLent : Bool → ℕ → ℕ → Bool
-isLent asked columns i = not asked || ltb i columns
+-- A number is lent: it is below so many, or any is.
+unfoldable pub isLent : Count → ℕ → Bool
+isLent Any i = true
+isLent (Of n) i = ltb i n
 
 -- An And or Or: 7 child not below its parent.
 unfoldable pub pairRefusal : List ℕ → ℕ → ℕ
-pairRefusal ns n = when (not (areBelow ns n)) error.badTree
+pairRefusal ns n = refuseIf (not (areBelow ns n)) error.badTree
 
 -- A HasZ: 10 column index not lent.
-unfoldable pub columnRefusal : List ℕ → (ℕ → Bool) → ℕ → ℕ
-columnRefusal ns lent n = when (not (lent (word ns n 1))) error.noColumn
+unfoldable pub columnRefusal : List ℕ → Lent → ℕ → ℕ
+columnRefusal ns lent n = refuseIf (not (isLent (lent .columns) (word ns n 1))) error.noColumn
 
 -- An Intersects or Covers: 9 literal number not lent; then 10.
-unfoldable pub leafRefusal : List ℕ → ℕ → (ℕ → Bool) → ℕ → ℕ
-leafRefusal ns literals lent n = cond (ltb (word ns n 3) literals) (columnRefusal ns lent n) error.noLiteral
+unfoldable pub leafRefusal : List ℕ → Lent → ℕ → ℕ
+leafRefusal ns lent n = cond (isLent (lent .literals) (word ns n 3)) (columnRefusal ns lent n) error.noLiteral
 
 -- 5 kind over 6; then by the kind.
-unfoldable pub nodeRefusal : List ℕ → ℕ → (ℕ → Bool) → ℕ → ℕ
-nodeRefusal ns literals lent n =
+unfoldable pub nodeRefusal : List ℕ → Lent → ℕ → ℕ
+nodeRefusal ns lent n =
     cond (ltb 6 (kind ns n)) error.unknownKind
     (cond (eqb (kind ns n) 2) (columnRefusal ns lent n)
-    (cond (isPair (kind ns n)) (pairRefusal ns n) (cond (isLeaf (kind ns n)) (leafRefusal ns literals lent n) 0)))
+    (cond (isPair (kind ns n)) (pairRefusal ns n) (cond (isLeaf (kind ns n)) (leafRefusal ns lent n) 0)))
 
 -- The nodes below n, upward.
-abbrev pub nodesRefusal : List ℕ → ℕ → (ℕ → Bool) → ℕ → ℕ
-nodesRefusal ns literals lent zero = 0
-nodesRefusal ns literals lent (suc n) = orElse (nodesRefusal ns literals lent n) (nodeRefusal ns literals lent n)
+abbrev pub nodesRefusal : List ℕ → Lent → ℕ → ℕ
+nodesRefusal ns lent zero = 0
+nodesRefusal ns lent (suc n) = orElse (nodesRefusal ns lent n) (nodeRefusal ns lent n)
 
 -- ---- uses of nodes as children
 
@@ -106,17 +108,6 @@ abbrev pub uses : List ℕ → ℕ → ℕ → ℕ
 uses ns zero m = 0
 uses ns (suc n) m = uses ns n m + usesBy ns n m
 
--- 1,024 marks, each of so many.
-abbrev pub Counted : List ℕ → (ℕ → ℕ) → Type 0
-Counted ms counts = (length ms ≡ 1024) × ((m : ℕ) → m < 1024 → getD ms m 0 ≡ counts m)
-
-abbrev pub AtMost : List ℕ → ℕ → Type 0
-AtMost ms n = (length ms ≡ 1024) × ((m : ℕ) → m < 1024 → getD ms m 0 ≤ n)
-
--- The children of an And or Or are among the 1,024.
-abbrev pub HaveMarks : List ℕ → ℕ → Type 0
-HaveMarks ns n = isPair (kind ns n) ≡ true → (word ns n 1 < 1024) × (word ns n 2 < 1024)
-
 -- Of all numbers below n.
 abbrev pub allBelow : (ℕ → Bool) → ℕ → Bool
 allBelow p zero = true
@@ -124,29 +115,31 @@ allBelow p (suc n) = allBelow p n && p n
 
 -- 7: a node but the root not used exactly once.
 unfoldable pub usesRefusal : List ℕ → ℕ
-usesRefusal ns = when (not (allBelow (λ m. eqb (uses ns (count ns) m) 1) (count ns - 1))) error.badTree
+usesRefusal ns = refuseIf (not (allBelow (λ m. eqb (uses ns (count ns) m) 1) (count ns - 1))) error.badTree
 
 -- ---- the order
 
 -- Of the table: its words, then its literals.
 unfoldable pub tableRefusal : Table → ℕ
-tableRefusal t = orElse (wordsRefusal (t .nodes)) (boxesRefusal false (t .literals))
+tableRefusal t = orElse (wordsRefusal (t .nodes)) (literalsRefusal (t .literals))
 
 -- Of the nodes: each upward, then the use count.
-unfoldable pub treeRefusal : List ℕ → ℕ → (ℕ → Bool) → ℕ
-treeRefusal ns literals lent = orElse (nodesRefusal ns literals lent (count ns)) (usesRefusal ns)
+unfoldable pub treeRefusal : List ℕ → Lent → ℕ
+treeRefusal ns lent = orElse (nodesRefusal ns lent (count ns)) (usesRefusal ns)
 
--- By name no index is looked at.
-abbrev pub asksIndex : Lookup → Bool
-asksIndex byPosition = true
-asksIndex (byName ns) = false
+-- How many column indices are lent. By name none is looked at.
+abbrev pub columnsOf : Lookup → ℕ → Count
+columnsOf byPosition records = Of records
+columnsOf (byName ns) records = Any
+
+-- So many literals, and so many columns or any.
+abbrev pub lentTo : Table → Count → Lent
+lentTo t columns = record { literals = Of (length (t .literals .flags)); columns = columns }
 
 -- The first number in 01's order.
 unfoldable pub refusal : Lookup → Table → Records → ℕ
-refusal l t r =
-    orElse (tableRefusal t)
-    (orElse (recordsRefusal l r) (treeRefusal (t .nodes) (length (t .literals .flags)) (isLent (asksIndex l) (length (r .boxes .flags)))))
+refusal l t r = orElse (tableRefusal t) (orElse (recordsRefusal l r) (treeRefusal (t .nodes) (lentTo t (columnsOf l (length (r .boxes .flags))))))
 
 -- Of `filter_bbox`, which has no records.
 unfoldable pub boxRefusal : Table → ℕ
-boxRefusal t = orElse (tableRefusal t) (treeRefusal (t .nodes) (length (t .literals .flags)) (isLent false 0))
+boxRefusal t = orElse (tableRefusal t) (treeRefusal (t .nodes) (lentTo t Any))

@@ -56,20 +56,20 @@ abbrev pub most : ℤ
 most = pos (2 ^ 63 - 1)
 
 -- A whole number leaves the range.
-unfoldable pub leaves : ℤ → Bool
-leaves z = ltZ z least || ltZ most z
+unfoldable pub isOutside : ℤ → Bool
+isOutside z = ltZ z least || ltZ most z
 
 -- The sum of two totals leaves the range; not where one is missing.
-unfoldable pub sumLeaves : Total → Total → Bool
-sumLeaves Total.Missing t = false
-sumLeaves (Total.Known m) Total.Missing = false
-sumLeaves (Total.Known m) (Total.Known n) = leaves (m +ℤ n)
+unfoldable pub sumIsOutside : Total → Total → Bool
+sumIsOutside Total.Missing t = false
+sumIsOutside (Total.Known m) Total.Missing = false
+sumIsOutside (Total.Known m) (Total.Known n) = isOutside (m +ℤ n)
 
 -- Totals add, over the whole numbers, where both are known. (A sum that leaves the range is missing here; `mergeValue` refuses it.)
 unfoldable pub addTotals : Total → Total → Total
 addTotals Total.Missing t = Total.Missing
 addTotals (Total.Known m) Total.Missing = Total.Missing
-addTotals (Total.Known m) (Total.Known n) = cond (leaves (m +ℤ n)) Total.Missing (Total.Known (m +ℤ n))
+addTotals (Total.Known m) (Total.Known n) = cond (isOutside (m +ℤ n)) Total.Missing (Total.Known (m +ℤ n))
 
 -- ---- the record
 
@@ -132,26 +132,22 @@ total lineal a = a .«lineal_count»
 total polygonal a = a .«polygonal_count»
 total collection a = a .«collection_count»
 
--- No sum of theirs leaves the range.
-abbrev pub SumsStay : GeoStatistics → GeoStatistics → Type 0
-SumsStay a b = (w : Which) → sumLeaves (total w a) (total w b) ≡ false
-
 -- A number alone: the record beside it is UNSPECIFIED.
 abbrev pub refused : ℕ → Merged
 refused n = record { number = n; rec = unspecified }
 
 unfoldable pub totalsOverflow : GeoStatistics → GeoStatistics → Bool
 totalsOverflow a b =
-    sumLeaves (a .«total_geometries») (b .«total_geometries»)
-    || sumLeaves (a .«total_size_bytes») (b .«total_size_bytes»)
-    || sumLeaves (a .«total_points») (b .«total_points»)
+    sumIsOutside (a .«total_geometries») (b .«total_geometries»)
+    || sumIsOutside (a .«total_size_bytes») (b .«total_size_bytes»)
+    || sumIsOutside (a .«total_points») (b .«total_points»)
 
 unfoldable pub countsOverflow : GeoStatistics → GeoStatistics → Bool
 countsOverflow a b =
-    sumLeaves (a .«puntal_count») (b .«puntal_count»)
-    || sumLeaves (a .«lineal_count») (b .«lineal_count»)
-    || sumLeaves (a .«polygonal_count») (b .«polygonal_count»)
-    || sumLeaves (a .«collection_count») (b .«collection_count»)
+    sumIsOutside (a .«puntal_count») (b .«puntal_count»)
+    || sumIsOutside (a .«lineal_count») (b .«lineal_count»)
+    || sumIsOutside (a .«polygonal_count») (b .«polygonal_count»)
+    || sumIsOutside (a .«collection_count») (b .«collection_count»)
 
 -- Each part merged with its like.
 unfoldable pub mergeParts : GeoStatistics → GeoStatistics → GeoStatistics
@@ -211,11 +207,6 @@ fold rs = foldFrom start rs
 
 -- ---- what the theorems speak of
 
--- It holds of every member of the list.
-abbrev pub All : {A : Type 0} → (A → Type 0) → List A → Type 0
-All P [] = Unit {0}
-All P (x ∷ xs) = P x × All P xs
-
 -- The ends of a record's box, where it has one, are doubles, as they are in the code.
 abbrev pub DoublesWhereKnown : Bbox → Type 0
 DoublesWhereKnown Bbox.Missing = Unit {0}
@@ -263,7 +254,7 @@ addAll e (d ∷ ds) = addAll (addExtents e d) ds
 -- No sum of the first total and some that follow leaves the range.
 abbrev pub PrefixSumsFit : Total → List Total → Type 0
 PrefixSumsFit t [] = Unit {0}
-PrefixSumsFit t (u ∷ us) = (sumLeaves t u ≡ false) × PrefixSumsFit (plus t u) us
+PrefixSumsFit t (u ∷ us) = (sumIsOutside t u ≡ false) × PrefixSumsFit (plus t u) us
 
 -- A tree of merges, as folds of folds make one.
 pub data Tree : Type 0 where

@@ -1,8 +1,8 @@
 -- What the tables that are lent to a filter call spell: the boxes of literals and records, the records' types, the tree of the nodes, and which
 -- record a leaf finds. Each is total: what lies past an end reads as 0, or as no box and no types. Such tables are refused before any answer (Refusals).
 use mathlib.Core.Bool.{Bool, _&&_, _||_, cond}
-use mathlib.Core.List.{List, [], _∷_}
-use Prim.Native.Nat.{ℕ, zero, suc, _+_, _-_, _*_, _/_, _%_, _≤_}
+use mathlib.Core.List.{List}
+use Prim.Native.Nat.{ℕ, zero, suc, _+_, _-_, _*_, _/_, _%_}
 use lib.Dec.{eqb, ltb}
 use lib.ListN.{length, getD}
 use lib.Ieee.{Float, nan}
@@ -11,9 +11,8 @@ use Rattle.sedona_geometry.specs.WraparoundInterval as wraparound
 use Rattle.sedona_geometry.specs.BoundingBox as boundingBox
 use Rattle.sedona_geometry.specs.Types as types
 use Rattle.sedona_geometry.specs.declared.interval.Interval.{Interval}
-use Rattle.sedona_geometry.specs.declared.bounding_box.Dimension.{Dimension}
-use Rattle.sedona_geometry.specs.declared.bounding_box.Dimension as Dimension
 use Rattle.sedona_geometry.specs.declared.bounding_box.BoundingBox.{BoundingBox}
+use Rattle.sedona_expr.specs.Names.{placeOf}
 use Rattle.sedona_expr.specs.SpatialFilter.{Column, Filter, intersects, covers, hasZ, and, or, literalFalse, unknown}
 use Rattle.sedona_expr.specs.declared.statistics.Bbox as Bbox
 use Rattle.sedona_expr.specs.declared.statistics.Bbox.{Bbox}
@@ -23,7 +22,14 @@ use Rattle.sedona_expr.specs.declared.tables.ColumnRecord.{ColumnRecord}
 
 -- ---- boxes
 
--- Eight doubles a box, low and high of x, y, z, m; and a flag byte each: 1 box, 2 z known, 4 m known.
+-- So many doubles a box: low and high of x, y, z, m.
+abbrev pub ends : ℕ
+ends = 8
+
+-- And a flag byte each, below this: 1 box, 2 z known, 4 m known.
+abbrev pub flagLimit : ℕ
+flagLimit = 8
+
 pub record Boxes : Type 0 where
   pub doubles : List Float
   pub flags : List ℕ
@@ -43,20 +49,17 @@ knowsM flag = eqb (flag / 4 % 2) 1
 
 -- Interval k of the box at a place.
 abbrev pub intervalAt : List Float → ℕ → ℕ → Interval
-intervalAt ds i k = interval.new (getD ds (8 * i + 2 * k) nan) (getD ds (8 * i + 2 * k + 1) nan)
-
-abbrev pub dimension : Bool → Interval → Dimension
-dimension known i = cond known (Dimension.Known i) Dimension.Missing
+intervalAt ds i k = interval.new (getD ds (ends * i + 2 * k) nan) (getD ds (ends * i + 2 * k + 1) nan)
 
 -- The box at a place, with its flag.
 unfoldable pub boxWith : List Float → ℕ → ℕ → BoundingBox
 boxWith ds i flag =
-    boundingBox.xyzm (wraparound.fromInterval (intervalAt ds i 0)) (intervalAt ds i 1) (dimension (knowsZ flag) (intervalAt ds i 2)) (dimension (knowsM flag) (intervalAt ds i 3))
+    boundingBox.xyzm (wraparound.fromInterval (intervalAt ds i 0)) (intervalAt ds i 1) (boundingBox.knownWhere (knowsZ flag) (intervalAt ds i 2)) (boundingBox.knownWhere (knowsM flag) (intervalAt ds i 3))
 
 -- The box at a place; none where the flag says so, and none past the end.
 unfoldable pub boxAt : Boxes → ℕ → Bbox
 boxAt b i =
-    cond (ltb i (length (b .doubles) / 8) && hasBox (getD (b .flags) i 0)) (Bbox.Known (boxWith (b .doubles) i (getD (b .flags) i 0))) Bbox.Missing
+    cond (ltb i (length (b .doubles) / ends) && hasBox (getD (b .flags) i 0)) (Bbox.Known (boxWith (b .doubles) i (getD (b .flags) i 0))) Bbox.Missing
 
 -- A literal's box. (A literal that has none is refused.)
 unfoldable pub orEmpty : Bbox → BoundingBox
@@ -90,10 +93,6 @@ word ns n k = getD ns (4 * n + k) 0
 
 abbrev pub kind : List ℕ → ℕ → ℕ
 kind ns n = word ns n 0
-
--- All four words of the node are there.
-abbrev pub HasNode : List ℕ → ℕ → Type 0
-HasNode ns n = 4 * n + 4 ≤ length ns
 
 -- The nodes' words, and the literals.
 pub record Table : Type 0 where
@@ -135,16 +134,23 @@ pairOf k a b = cond (eqb k 3) a b
 unfoldable pub areBelow : List ℕ → ℕ → Bool
 areBelow ns n = ltb (word ns n 1) n && ltb (word ns n 2) n
 
--- The tree of a node, given the trees of nodes below it. (A child that is not below is refused; an Unknown stands for such a node here.)
+-- An And or Or with both children below it.
+unfoldable pub hasChildren : List ℕ → ℕ → Bool
+hasChildren ns n = isPair (kind ns n) && areBelow ns n
+
+-- The tree of a node without children. (An And or Or with a child that is not below is refused; an Unknown stands for it here.)
+unfoldable pub alone : Table → ℕ → Filter
+alone t n =
+    let k = kind (t .nodes) n in
+    let c = columnOf (t .nodes) n in
+    cond (ltb 2 k) (cond (eqb k 5) literalFalse unknown) (cond (eqb k 2) (hasZ c) (leafOf k (intersects c (literal t n)) (covers c (literal t n))))
+
+-- The tree of a node, given the trees of nodes below it.
 unfoldable pub treeOf : Table → ℕ → (ℕ → Filter) → Filter
 treeOf t n below =
-    let k = kind (t .nodes) n in
     let l = below (word (t .nodes) n 1) in
     let r = below (word (t .nodes) n 2) in
-    let c = columnOf (t .nodes) n in
-    cond (isLeaf k) (leafOf k (intersects c (literal t n)) (covers c (literal t n)))
-    (cond (eqb k 2) (hasZ c)
-    (cond (isPair k) (cond (areBelow (t .nodes) n) (pairOf k (and l r) (or l r)) unknown) (cond (eqb k 5) literalFalse unknown)))
+    cond (hasChildren (t .nodes) n) (pairOf (kind (t .nodes) n) (and l r) (or l r)) (alone t n)
 
 -- The trees of the nodes below n.
 abbrev pub treesBelow : Table → ℕ → ℕ → Filter
@@ -166,11 +172,6 @@ pub data Lookup : Type 0 where
 
 abbrev pub lookup : Bool → List ℕ → Lookup
 lookup by-name ns = cond by-name (byName ns) byPosition
-
--- The first place of a name; the list's length where it has none.
-unfoldable pub placeOf : List ℕ → ℕ → ℕ
-placeOf [] n = 0
-placeOf (m ∷ ms) n = cond (eqb m n) 0 (suc (placeOf ms n))
 
 unfoldable pub place : Lookup → Column → ℕ
 place byPosition c = c .index

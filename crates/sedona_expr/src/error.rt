@@ -12,9 +12,9 @@ pub const UNKNOWN_KIND: u32 = 5;
 // A child not below its parent, or a node but the root not used exactly once.
 pub const BAD_TREE: u32 = 7;
 
-// Doubles not eight a flag, bad flags, types or names not as many as the records, or a known byte
-// that is not 0 or 1.
-pub const BOXES: u32 = 8;
+// Lists of other lengths than they should have (doubles a flag, types or names a record), or a bad flag or
+// byte in one.
+pub const BAD_LISTS: u32 = 8;
 
 // A literal number that is not lent.
 pub const NO_LITERAL: u32 = 9;

@@ -3,8 +3,10 @@ ghost use mathlib.Core.Path.{_≡_};
 ghost use mathlib.Core.Bool.{false};
 ghost use Prim.Native.Nat.{_<_, _≤_};
 ghost use lib.ListN.{length, drop};
-ghost use Rattle.sedona_expr.specs.Names.{isOther, findName, behind, comesBefore, ascends, markOf, hasBit, withBit};
-ghost use Rattle.sedona_expr.specs.Refusals as refusals;
+ghost use Rattle.sedona_geometry.specs.Bits.{hasBit, withBit};
+ghost use Rattle.sedona_geometry.specs.Lists.{areAll};
+ghost use Rattle.sedona_expr.specs.Names.{findName, hasTwice};
+ghost use Rattle.sedona_expr.specs.Within.{isOther, behind, comesBefore, ascends, markOf};
 
 // What a search for a name gives.
 pub struct NameSearch {
@@ -18,7 +20,7 @@ pub struct NameSearch {
 // Whether none of some names is the name. There is no way out before the end, so that many are compared
 // at once.
 fn is_none_of(names: &[u32], name: u32) -> bool
-    ensures { λ r. ⌜ r ≡ refusals.all (isOther name) (now (names .entry)) ⌝ }
+    ensures { λ r. ⌜ r ≡ areAll (isOther name) (now (names .entry)) ⌝ }
 {
     let mut none = true;
     let mut i = 0;
@@ -92,7 +94,7 @@ fn comes_again(names: &[u32], i: usize, is_marked: bool) -> bool
 
 // Whether a name comes twice, each looked for among those before it.
 fn has_twice_by_pairs(names: &[u32]) -> bool
-    ensures { λ r. ⌜ r ≡ refusals.hasTwice (now (names .entry)) ⌝ }
+    ensures { λ r. ⌜ r ≡ hasTwice (now (names .entry)) ⌝ }
 {
     let mut i = 0;
     while i < names.len() {
@@ -139,7 +141,7 @@ fn mark_of(name: u32) -> u32
 // Whether a name comes twice, by marks that are all clear at first: a name whose mark is clear is new,
 // and only where it is set are the names before looked through.
 fn has_twice_by_marks(names: &[u32]) -> bool
-    ensures { λ r. ⌜ r ≡ refusals.hasTwice (now (names .entry)) ⌝ }
+    ensures { λ r. ⌜ r ≡ hasTwice (now (names .entry)) ⌝ }
 {
     let mut marks = [0u64; WORDS];
     let mut i = 0;
@@ -174,7 +176,7 @@ fn are_ascending(names: &[u32]) -> bool
 
 // Whether a name is twice among them. Of names that ascend none is.
 pub(crate) fn has_twice(names: &[u32]) -> bool
-    ensures { λ r. ⌜ r ≡ refusals.hasTwice (now (names .entry)) ⌝ }
+    ensures { λ r. ⌜ r ≡ hasTwice (now (names .entry)) ⌝ }
 {
     if are_ascending(names) {
         return false;

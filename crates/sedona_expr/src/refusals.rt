@@ -2,12 +2,15 @@
 // `box_refusal`, at the end, have their order. All nodes are checked before any is answered.
 ghost use mathlib.Core.Path.{_≡_};
 ghost use Prim.Native.Nat.{_≤_, _<_, _+_};
+ghost use mathlib.Core.Bool.{not};
 ghost use lib.Dec.{eqb, ltb};
 ghost use lib.ListN.{length, getD};
 ghost use Rattle.sedona_expr.specs.Tables as tables;
+ghost use Rattle.sedona_geometry.specs.Lists as lists;
 ghost use Rattle.sedona_expr.specs.Refusals as refusals;
+ghost use Rattle.sedona_expr.specs.Within as within;
+use crate::error::BAD_LISTS;
 use crate::error::BAD_TREE;
-use crate::error::BOXES;
 use crate::error::NAME_TWICE;
 use crate::error::NO_COLUMN;
 use crate::error::NO_LITERAL;
@@ -15,6 +18,7 @@ use crate::error::UNKNOWN_KIND;
 use crate::error::WORDS;
 use crate::names::has_twice;
 use crate::tables::ENDS;
+use crate::tables::FLAG_LIMIT;
 use crate::tables::HAS_Z;
 use crate::tables::LAST_KIND;
 use crate::tables::NODE;
@@ -44,17 +48,17 @@ fn words_refusal(nodes: &[u32]) -> u32
     0
 }
 
-// Whether a flag is 1, 3, 5 or 7; or 0, where a box may be missing.
+// Whether a flag is odd and below the limit; or 0, where a box may be missing.
 pub fn is_good_flag(none: bool, flag: u8) -> bool
     ensures { λ r. ⌜ r ≡ refusals.goodFlag none flag ⌝ }
 {
-    (flag < 8) & ((flag % 2 == 1) | (none & (flag == 0)))
+    (flag < FLAG_LIMIT) & ((flag % 2 == 1) | (none & (flag == 0)))
 }
 
 // Whether every flag is good. It goes to the end of the list whatever is found, as does `are_zero_or_one`:
 // without a way out before, many are tested at once.
 fn are_good_flags(none: bool, flags: &[u8]) -> bool
-    ensures { λ r. ⌜ r ≡ refusals.all (refusals.goodFlag none) (now (flags .entry)) ⌝ }
+    ensures { λ r. ⌜ r ≡ lists.areAll (refusals.goodFlag none) (now (flags .entry)) ⌝ }
 {
     let mut good = true;
     let mut i = 0;
@@ -65,26 +69,33 @@ fn are_good_flags(none: bool, flags: &[u8]) -> bool
     good
 }
 
-// Doubles not eight a flag, or bad flags.
-fn boxes_refusal(none: bool, doubles: &[f64], flags: &[u8]) -> u32
-    ensures { λ r. ⌜ r ≡ refusals.boxesRefusal none (tables.boxes (now (doubles .entry)) (now (flags .entry))) ⌝ }
+// Whether there are ENDS doubles a flag.
+fn are_in_boxes(doubles: &[f64], flags: &[u8]) -> bool
+    ensures { λ r. ⌜ r ≡ not (refusals.wrongDoubles (tables.boxes (now (doubles .entry)) (now (flags .entry)))) ⌝ }
 {
     if doubles.len() % ENDS != 0 {
-        return BOXES;
+        return false;
     }
-    if doubles.len() / ENDS != flags.len() {
-        return BOXES;
+    doubles.len() / ENDS == flags.len()
+}
+
+// Literals that are not so many doubles, or have bad flags.
+fn literals_refusal(literals: &[f64], literal_flags: &[u8]) -> u32
+    ensures { λ r. ⌜ r ≡ refusals.literalsRefusal (tables.boxes (now (literals .entry)) (now («literal_flags» .entry))) ⌝ }
+{
+    if !are_in_boxes(literals, literal_flags) {
+        return BAD_LISTS;
     }
-    if are_good_flags(none, flags) {
+    if are_good_flags(false, literal_flags) {
         0
     } else {
-        BOXES
+        BAD_LISTS
     }
 }
 
 // Whether every byte is 0 or 1.
 pub fn are_zero_or_one(bytes: &[u8]) -> bool
-    ensures { λ r. ⌜ r ≡ refusals.all (λ b. ltb b 2) (now (bytes .entry)) ⌝ }
+    ensures { λ r. ⌜ r ≡ lists.areAll (λ b. ltb b 2) (now (bytes .entry)) ⌝ }
 {
     let mut good = true;
     let mut i = 0;
@@ -95,31 +106,56 @@ pub fn are_zero_or_one(bytes: &[u8]) -> bool
     good
 }
 
-// Types or known bytes not as many as the records, or a byte that is not 0 or 1.
-fn types_refusal(record_types: &[u32], types_known: &[u8], records: usize) -> u32
-    ensures { λ r. ⌜ r ≡ refusals.typesRefusal (now («record_types» .entry)) (now («types_known» .entry)) records ⌝ }
+// By name: whether there are not as many names as records.
+fn are_wrong_names(named: bool, names: &[u32], records: usize) -> bool
+    ensures { λ r. ⌜ r ≡ refusals.wrongNames (tables.lookup named (now (names .entry))) records ⌝ }
 {
-    if record_types.len() != records {
-        return BOXES;
+    if !named {
+        return false;
     }
-    if types_known.len() != records {
-        return BOXES;
+    names.len() != records
+}
+
+// Lists of the records that do not fit one another.
+fn lengths_refusal(
+    records: &[f64],
+    record_flags: &[u8],
+    record_types: &[u32],
+    types_known: &[u8],
+    named: bool,
+    names: &[u32],
+) -> u32
+    ensures { λ r. ⌜ r ≡ refusals.lengthsRefusal (tables.lookup named (now (names .entry))) (tables.records (now (records .entry)) (now («record_flags» .entry)) (now («record_types» .entry)) (now («types_known» .entry))) ⌝ }
+{
+    let count = record_flags.len();
+    if !are_in_boxes(records, record_flags) {
+        return BAD_LISTS;
+    }
+    if record_types.len() != count {
+        return BAD_LISTS;
+    }
+    if types_known.len() != count {
+        return BAD_LISTS;
+    }
+    if are_wrong_names(named, names, count) {
+        BAD_LISTS
+    } else {
+        0
+    }
+}
+
+// A bad flag of a record, or a known byte that is not 0 or 1.
+fn values_refusal(record_flags: &[u8], types_known: &[u8]) -> u32
+    ensures { λ r. ⌜ r ≡ refusals.valuesRefusal (now («record_flags» .entry)) (now («types_known» .entry)) ⌝ }
+{
+    if !are_good_flags(true, record_flags) {
+        return BAD_LISTS;
     }
     if are_zero_or_one(types_known) {
         0
     } else {
-        BOXES
+        BAD_LISTS
     }
-}
-
-// By name: not as many names as records.
-fn names_refusal(named: bool, names: &[u32], records: usize) -> u32
-    ensures { λ r. ⌜ r ≡ refusals.namesRefusal (tables.lookup named (now (names .entry))) records ⌝ }
-{
-    if !named {
-        return 0;
-    }
-    if names.len() == records { 0 } else { BOXES }
 }
 
 // By name: a name twice among the records.
@@ -132,7 +168,7 @@ fn twice_refusal(named: bool, names: &[u32]) -> u32
     if has_twice(names) { NAME_TWICE } else { 0 }
 }
 
-// What the records are refused by.
+// What the records are refused by: their lengths, their values, then their names.
 fn records_refusal(
     records: &[f64],
     record_flags: &[u8],
@@ -143,24 +179,48 @@ fn records_refusal(
 ) -> u32
     ensures { λ r. ⌜ r ≡ refusals.recordsRefusal (tables.lookup named (now (names .entry))) (tables.records (now (records .entry)) (now («record_flags» .entry)) (now («record_types» .entry)) (now («types_known» .entry))) ⌝ }
 {
-    let number = boxes_refusal(true, records, record_flags);
+    let number = lengths_refusal(
+        records,
+        record_flags,
+        record_types,
+        types_known,
+        named,
+        names,
+    );
     if number != 0 {
         return number;
     }
-    let number = types_refusal(record_types, types_known, record_flags.len());
-    if number != 0 {
-        return number;
-    }
-    let number = names_refusal(named, names, record_flags.len());
+    let number = values_refusal(record_flags, types_known);
     if number != 0 {
         return number;
     }
     twice_refusal(named, names)
 }
 
+// How many are lent; or any number is taken as lent.
+pub(crate) enum Count {
+    Any,
+    Of(usize),
+}
+
+// How many literals and columns are lent to the nodes.
+pub(crate) struct Lent {
+    literals: Count,
+    columns: Count,
+}
+
+fn is_lent(count: Count, number: u32) -> bool
+    ensures { λ r. ⌜ r ≡ refusals.isLent count number ⌝ }
+{
+    let Count::Of(n) = count else {
+        return true;
+    };
+    (number as usize) < n
+}
+
 // A pair that has a child not below it.
 fn pair_refusal(nodes: &[u32], node: u32) -> u32
-    requires { ⌜ tables.HasNode (now nodes) node ⌝ }
+    requires { ⌜ within.HasNode (now nodes) node ⌝ }
     ensures { λ r. ⌜ r ≡ refusals.pairRefusal (now (nodes .entry)) node ⌝ }
 {
     let left = word(nodes, node, 1);
@@ -172,56 +232,55 @@ fn pair_refusal(nodes: &[u32], node: u32) -> u32
 }
 
 // A leaf whose column is not lent.
-fn column_refusal(nodes: &[u32], node: u32, asked: bool, columns: usize) -> u32
-    requires { ⌜ tables.HasNode (now nodes) node ⌝ }
-    ensures { λ r. ⌜ r ≡ refusals.columnRefusal (now (nodes .entry)) (refusals.isLent asked columns) node ⌝ }
+fn column_refusal(nodes: &[u32], node: u32, lent: Lent) -> u32
+    requires { ⌜ within.HasNode (now nodes) node ⌝ }
+    ensures { λ r. ⌜ r ≡ refusals.columnRefusal (now (nodes .entry)) lent node ⌝ }
 {
-    if !asked {
-        return 0;
-    }
-    if word(nodes, node, 1) as usize >= columns {
-        NO_COLUMN
-    } else {
+    let columns = lent.columns;
+    if is_lent(columns, word(nodes, node, 1)) {
         0
+    } else {
+        NO_COLUMN
     }
 }
 
 // A leaf whose literal or whose column is not lent.
-fn leaf_refusal(nodes: &[u32], node: u32, literals: usize, asked: bool, columns: usize) -> u32
-    requires { ⌜ tables.HasNode (now nodes) node ⌝ }
-    ensures { λ r. ⌜ r ≡ refusals.leafRefusal (now (nodes .entry)) literals (refusals.isLent asked columns) node ⌝ }
+fn leaf_refusal(nodes: &[u32], node: u32, lent: Lent) -> u32
+    requires { ⌜ within.HasNode (now nodes) node ⌝ }
+    ensures { λ r. ⌜ r ≡ refusals.leafRefusal (now (nodes .entry)) lent node ⌝ }
 {
-    if word(nodes, node, 3) as usize >= literals {
-        return NO_LITERAL;
+    let literals = lent.literals;
+    if is_lent(literals, word(nodes, node, 3)) {
+        return column_refusal(nodes, node, lent);
     }
-    column_refusal(nodes, node, asked, columns)
+    NO_LITERAL
 }
 
 // What a node is refused by.
-fn node_refusal(nodes: &[u32], node: u32, literals: usize, asked: bool, columns: usize) -> u32
-    requires { ⌜ tables.HasNode (now nodes) node ⌝ }
-    ensures { λ r. ⌜ r ≡ refusals.nodeRefusal (now (nodes .entry)) literals (refusals.isLent asked columns) node ⌝ }
+fn node_refusal(nodes: &[u32], node: u32, lent: Lent) -> u32
+    requires { ⌜ within.HasNode (now nodes) node ⌝ }
+    ensures { λ r. ⌜ r ≡ refusals.nodeRefusal (now (nodes .entry)) lent node ⌝ }
 {
     let kind = word(nodes, node, 0);
     if kind > LAST_KIND {
         return UNKNOWN_KIND;
     }
     if kind == HAS_Z {
-        return column_refusal(nodes, node, asked, columns);
+        return column_refusal(nodes, node, lent);
     }
     if is_pair(kind) {
         return pair_refusal(nodes, node);
     }
     if is_leaf(kind) {
-        return leaf_refusal(nodes, node, literals, asked, columns);
+        return leaf_refusal(nodes, node, lent);
     }
     0
 }
 
 // Counts a use of a node as a child.
 fn mark(marks: &mut [u16; MOST_NODES], node: u32)
-    requires { ⌜ refusals.AtMost (now marks) 65534 × (node < 1024) ⌝ }
-    ensures { λ _. ⌜ refusals.Counted (now (marks .exit)) (λ m. getD (now (marks .entry)) m 0 + refusals.one (eqb node m)) ⌝ }
+    requires { ⌜ within.AtMost (now marks) 65534 × (node < 1024) ⌝ }
+    ensures { λ _. ⌜ within.Counted (now (marks .exit)) (λ m. getD (now (marks .entry)) m 0 + refusals.one (eqb node m)) ⌝ }
 {
     let at = node as usize;
     marks[at] += 1;
@@ -229,8 +288,8 @@ fn mark(marks: &mut [u16; MOST_NODES], node: u32)
 
 // Counts the uses that a node makes of its children.
 fn mark_children(marks: &mut [u16; MOST_NODES], nodes: &[u32], node: u32)
-    requires { ⌜ refusals.AtMost (now marks) 65533 × (tables.HasNode (now nodes) node × refusals.HaveMarks (now nodes) node) ⌝ }
-    ensures { λ _. ⌜ refusals.Counted (now (marks .exit)) (λ m. getD (now (marks .entry)) m 0 + refusals.usesBy (now (nodes .entry)) node m) ⌝ }
+    requires { ⌜ within.AtMost (now marks) 65533 × (within.HasNode (now nodes) node × within.HaveMarks (now nodes) node) ⌝ }
+    ensures { λ _. ⌜ within.Counted (now (marks .exit)) (λ m. getD (now (marks .entry)) m 0 + refusals.usesBy (now (nodes .entry)) node m) ⌝ }
 {
     if is_pair(word(nodes, node, 0)) {
         let left = word(nodes, node, 1);
@@ -258,18 +317,18 @@ fn are_once(marks: &[u16; MOST_NODES], n: usize) -> bool
 
 // What the nodes are refused by: each upward, then the use count, by marks that are all clear at first.
 // One pass tests the nodes and counts their uses. One node alone has no child, and needs no marks.
-fn tree_refusal(nodes: &[u32], literals: usize, asked: bool, columns: usize) -> u32
+fn tree_refusal(nodes: &[u32], lent: Lent) -> u32
     requires { ⌜ (1 ≤ tables.count (now nodes)) × (length (now nodes) ≤ 4096) ⌝ }
-    ensures { λ r. ⌜ r ≡ refusals.treeRefusal (now (nodes .entry)) literals (refusals.isLent asked columns) ⌝ }
+    ensures { λ r. ⌜ r ≡ refusals.treeRefusal (now (nodes .entry)) lent ⌝ }
 {
     let count = nodes.len() / NODE;
     if count == 1 {
-        return node_refusal(nodes, 0, literals, asked, columns);
+        return node_refusal(nodes, 0, lent);
     }
     let mut marks = [0u16; MOST_NODES];
     let mut node = 0;
     while (node as usize) < count {
-        let number = node_refusal(nodes, node, literals, asked, columns);
+        let number = node_refusal(nodes, node, lent);
         if number != 0 {
             return number;
         }
@@ -291,7 +350,17 @@ fn table_refusal(nodes: &[u32], literals: &[f64], literal_flags: &[u8]) -> u32
     if number != 0 {
         return number;
     }
-    boxes_refusal(false, literals, literal_flags)
+    literals_refusal(literals, literal_flags)
+}
+
+// How many column indices are lent. By name none is looked at.
+fn columns_of(named: bool, names: &[u32], records: usize) -> Count
+    ensures { λ r. ⌜ r ≡ refusals.columnsOf (tables.lookup named (now (names .entry))) records ⌝ }
+{
+    if named {
+        return Count::Any;
+    }
+    Count::Of(records)
 }
 
 // What a call is refused by: the first number in this order.
@@ -323,7 +392,11 @@ pub(crate) fn refusal(
     if number != 0 {
         return number;
     }
-    tree_refusal(nodes, literal_flags.len(), !named, record_flags.len())
+    let lent = Lent {
+        literals: Count::Of(literal_flags.len()),
+        columns: columns_of(named, names, record_flags.len()),
+    };
+    tree_refusal(nodes, lent)
 }
 
 // What `filter_bbox`, which has no records, is refused by.
@@ -334,5 +407,9 @@ pub(crate) fn box_refusal(nodes: &[u32], literals: &[f64], literal_flags: &[u8])
     if number != 0 {
         return number;
     }
-    tree_refusal(nodes, literal_flags.len(), false, 0)
+    let lent = Lent {
+        literals: Count::Of(literal_flags.len()),
+        columns: Count::Any,
+    };
+    tree_refusal(nodes, lent)
 }

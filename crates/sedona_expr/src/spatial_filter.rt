@@ -7,18 +7,19 @@ ghost use Rattle.sedona_geometry.specs.BoundingBox as boundingBox;
 ghost use Rattle.sedona_expr.specs.SpatialFilter as filter;
 ghost use Rattle.sedona_expr.specs.Tables as tables;
 ghost use Rattle.sedona_expr.specs.Calls as calls;
+ghost use Rattle.sedona_expr.specs.Within as within;
 use crate::refusals::box_refusal;
 use crate::refusals::refusal;
 use crate::statistics::Bbox;
 use crate::statistics::GeometryTypes;
 use crate::tables::AND;
+use crate::tables::Children;
 use crate::tables::ColumnRecord;
 use crate::tables::HAS_Z;
 use crate::tables::INTERSECTS;
 use crate::tables::LITERAL_FALSE;
 use crate::tables::NODE;
-use crate::tables::is_leaf;
-use crate::tables::is_pair;
+use crate::tables::children_of;
 use crate::tables::literal_of;
 use crate::tables::record_of;
 use crate::tables::word;
@@ -56,7 +57,7 @@ fn may_cover(b: Bbox, literal: BoundingBox) -> bool
 }
 
 // What an Intersects, else a Covers, answers.
-fn leaf_may_match(kind: u32, b: Bbox, literal: BoundingBox) -> bool
+fn box_may_match(kind: u32, b: Bbox, literal: BoundingBox) -> bool
     ensures { λ r. ⌜ r ≡ tables.leafOf kind (filter.mayIntersect b literal) (filter.mayCover b literal) ⌝ }
 {
     if kind == INTERSECTS {
@@ -126,7 +127,59 @@ fn both_or_either(kind: u32, a: bool, b: bool) -> bool
     if kind == AND { a && b } else { a || b }
 }
 
-// Whether the tree of a node may match. (A child that is not below its node is refused before.)
+// What a leaf answers, given the record that it finds.
+fn leaf_may_match(
+    nodes: &[u32],
+    literals: &[f64],
+    literal_flags: &[u8],
+    node: u32,
+    seen: ColumnRecord,
+) -> bool
+    requires { ⌜ within.HasNode (now nodes) node ⌝ }
+    ensures { λ r. ⌜ r ≡ within.leafAnswer (tables.kind (now (nodes .entry)) node) seen (tables.literal (tables.table (now (nodes .entry)) (now (literals .entry)) (now («literal_flags» .entry))) node) ⌝ }
+{
+    let kind = word(nodes, node, 0);
+    if kind == HAS_Z {
+        return may_have_z(seen);
+    }
+    let bbox = seen.bbox;
+    box_may_match(kind, bbox, literal_of(nodes, literals, literal_flags, node))
+}
+
+// What a node without children answers.
+fn may_match_alone(
+    nodes: &[u32],
+    literals: &[f64],
+    literal_flags: &[u8],
+    records: &[f64],
+    record_flags: &[u8],
+    record_types: &[u32],
+    types_known: &[u8],
+    named: bool,
+    names: &[u32],
+    node: u32,
+) -> bool
+    requires { ⌜ within.HasNode (now nodes) node ⌝ }
+    ensures { λ r. ⌜ r ≡ filter.answer (tables.recordOf (tables.lookup named (now (names .entry))) (tables.records (now (records .entry)) (now («record_flags» .entry)) (now («record_types» .entry)) (now («types_known» .entry)))) (tables.alone (tables.table (now (nodes .entry)) (now (literals .entry)) (now («literal_flags» .entry))) node) ⌝ }
+{
+    let kind = word(nodes, node, 0);
+    if kind > HAS_Z {
+        return kind != LITERAL_FALSE;
+    }
+    let seen = record_of(
+        nodes,
+        records,
+        record_flags,
+        record_types,
+        types_known,
+        named,
+        names,
+        node,
+    );
+    leaf_may_match(nodes, literals, literal_flags, node, seen)
+}
+
+// Whether the tree of a node may match.
 fn may_match(
     nodes: &[u32],
     literals: &[f64],
@@ -139,48 +192,11 @@ fn may_match(
     names: &[u32],
     node: u32,
 ) -> bool
-    requires { ⌜ tables.HasNode (now nodes) node ⌝ }
+    requires { ⌜ within.HasNode (now nodes) node ⌝ }
     ensures { λ r. ⌜ r ≡ filter.answer (tables.recordOf (tables.lookup named (now (names .entry))) (tables.records (now (records .entry)) (now («record_flags» .entry)) (now («record_types» .entry)) (now («types_known» .entry)))) (tables.treeAt (tables.table (now (nodes .entry)) (now (literals .entry)) (now («literal_flags» .entry))) node) ⌝ }
 {
-    let kind = word(nodes, node, 0);
-    if is_leaf(kind) {
-        let k = literal_of(nodes, literals, literal_flags, node);
-        let seen = record_of(
-            nodes,
-            records,
-            record_flags,
-            record_types,
-            types_known,
-            named,
-            names,
-            node,
-        );
-        let bbox = seen.bbox;
-        return leaf_may_match(kind, bbox, k);
-    }
-    if kind == HAS_Z {
-        let seen = record_of(
-            nodes,
-            records,
-            record_flags,
-            record_types,
-            types_known,
-            named,
-            names,
-            node,
-        );
-        return may_have_z(seen);
-    }
-    if is_pair(kind) {
-        let left = word(nodes, node, 1);
-        let right = word(nodes, node, 2);
-        if left >= node {
-            return true;
-        }
-        if right >= node {
-            return true;
-        }
-        let a = may_match(
+    let Children::Both(pair) = children_of(nodes, node) else {
+        return may_match_alone(
             nodes,
             literals,
             literal_flags,
@@ -190,23 +206,34 @@ fn may_match(
             types_known,
             named,
             names,
-            left,
+            node,
         );
-        let b = may_match(
-            nodes,
-            literals,
-            literal_flags,
-            records,
-            record_flags,
-            record_types,
-            types_known,
-            named,
-            names,
-            right,
-        );
-        return both_or_either(kind, a, b);
-    }
-    kind != LITERAL_FALSE
+    };
+    let a = may_match(
+        nodes,
+        literals,
+        literal_flags,
+        records,
+        record_flags,
+        record_types,
+        types_known,
+        named,
+        names,
+        pair.left,
+    );
+    let b = may_match(
+        nodes,
+        literals,
+        literal_flags,
+        records,
+        record_flags,
+        record_types,
+        types_known,
+        named,
+        names,
+        pair.right,
+    );
+    both_or_either(word(nodes, node, 0), a, b)
 }
 
 // All x and y, z and m missing.
@@ -227,6 +254,30 @@ fn intersection_or_full(a: BoundingBox, b: BoundingBox) -> BoundingBox
     out.bounds
 }
 
+// The box of a node without children, for the column of a name.
+fn box_alone(
+    nodes: &[u32],
+    literals: &[f64],
+    literal_flags: &[u8],
+    name: u32,
+    node: u32,
+) -> BoundingBox
+    requires { ⌜ within.HasNode (now nodes) node ⌝ }
+    ensures { λ r. ⌜ r ≡ filter.boxFor name (tables.alone (tables.table (now (nodes .entry)) (now (literals .entry)) (now («literal_flags» .entry))) node) ⌝ }
+{
+    let kind = word(nodes, node, 0);
+    if kind == LITERAL_FALSE {
+        return BoundingBox::empty();
+    }
+    if kind >= HAS_Z {
+        return full();
+    }
+    if word(nodes, node, 2) == name {
+        return literal_of(nodes, literals, literal_flags, node);
+    }
+    full()
+}
+
 // The box of the tree of a node, for the column of a name.
 fn box_for(
     nodes: &[u32],
@@ -235,36 +286,18 @@ fn box_for(
     name: u32,
     node: u32,
 ) -> BoundingBox
-    requires { ⌜ tables.HasNode (now nodes) node ⌝ }
+    requires { ⌜ within.HasNode (now nodes) node ⌝ }
     ensures { λ r. ⌜ r ≡ filter.boxFor name (tables.treeAt (tables.table (now (nodes .entry)) (now (literals .entry)) (now («literal_flags» .entry))) node) ⌝ }
 {
-    let kind = word(nodes, node, 0);
-    if is_leaf(kind) {
-        if word(nodes, node, 2) == name {
-            return literal_of(nodes, literals, literal_flags, node);
-        }
-        return full();
+    let Children::Both(pair) = children_of(nodes, node) else {
+        return box_alone(nodes, literals, literal_flags, name, node);
+    };
+    let a = box_for(nodes, literals, literal_flags, name, pair.left);
+    let b = box_for(nodes, literals, literal_flags, name, pair.right);
+    if word(nodes, node, 0) == AND {
+        return intersection_or_full(a, b);
     }
-    if is_pair(kind) {
-        let left = word(nodes, node, 1);
-        let right = word(nodes, node, 2);
-        if left >= node {
-            return full();
-        }
-        if right >= node {
-            return full();
-        }
-        let a = box_for(nodes, literals, literal_flags, name, left);
-        let b = box_for(nodes, literals, literal_flags, name, right);
-        if kind == AND {
-            return intersection_or_full(a, b);
-        }
-        return a.merge_box(b);
-    }
-    if kind == LITERAL_FALSE {
-        return BoundingBox::empty();
-    }
-    full()
+    a.merge_box(b)
 }
 
 // Both calls, by position and by name.

@@ -4,6 +4,7 @@ ghost use mathlib.Core.Path.{_≡_};
 ghost use mathlib.Core.Bool.{false};
 ghost use lib.IntN.{_+ℤ_};
 ghost use Rattle.sedona_expr.specs.Statistics as statistics;
+ghost use Rattle.sedona_expr.specs.Within as within;
 use crate::error::OVERFLOW;
 use sedona_geometry::bounding_box::BoundingBox;
 use sedona_geometry::types::GeometryTypeAndDimensionsSet;
@@ -110,7 +111,7 @@ impl Extent {
 impl Total {
     // Whether the sum leaves its range; not where one is missing.
     fn overflows(self, other: Total) -> bool
-        ensures { λ r. ⌜ r ≡ statistics.sumLeaves self other ⌝ }
+        ensures { λ r. ⌜ r ≡ statistics.sumIsOutside self other ⌝ }
     {
         let Total::Known(a) = self else {
             return false;
@@ -123,7 +124,7 @@ impl Total {
 
     // The sum, where it stays in its range; missing where one is.
     fn add(self, other: Total) -> Total
-        requires { ⌜ statistics.sumLeaves self other ≡ false ⌝ }
+        requires { ⌜ statistics.sumIsOutside self other ≡ false ⌝ }
         ensures { λ r. ⌜ r ≡ statistics.addTotals self other ⌝ }
     {
         let Total::Known(a) = self else {
@@ -142,7 +143,7 @@ const MOST: i64 = 9223372036854775807;
 
 // Whether a + b leaves the range of an i64.
 fn sum_overflows(a: i64, b: i64) -> bool
-    ensures { λ r. ⌜ r ≡ statistics.leaves (a +ℤ b) ⌝ }
+    ensures { λ r. ⌜ r ≡ statistics.isOutside (a +ℤ b) ⌝ }
 {
     if b < 0 { a < LEAST - b } else { a > MOST - b }
 }
@@ -266,7 +267,7 @@ impl GeoStatistics {
 
     // Each part merged with its like, where no sum leaves its range. (Tested before, and not again.)
     fn merge_parts(self, other: GeoStatistics) -> GeoStatistics
-        requires { ⌜ statistics.SumsStay self other ⌝ }
+        requires { ⌜ within.SumsStay self other ⌝ }
         ensures { λ r. ⌜ r ≡ statistics.mergeParts self other ⌝ }
     {
         let bbox = self.bbox;

@@ -4,13 +4,14 @@
 //   2 HasZ                   column index, name number, unread
 //   3 And, 4 Or              left node, right node, unread
 //   5 LiteralFalse, 6 Unknown   unread
-// Boxes, of the literals and of the columns' records, come as eight doubles each, low and high of x,
+// Boxes, of the literals and of the columns' records, come as ENDS doubles each, low and high of x,
 // y, z, m, and a flag byte: 1 box, 2 z known, 4 m known. A record's types come as the 32 bits of
 // their set, and a byte: 1 where they are known.
 ghost use mathlib.Core.Path.{_≡_};
 ghost use Prim.Native.Nat.{_≤_, _+_, _*_};
 ghost use lib.ListN.{length};
 ghost use Rattle.sedona_expr.specs.Tables as tables;
+ghost use Rattle.sedona_expr.specs.Within as within;
 use crate::names::find_name;
 use crate::statistics::Bbox;
 use crate::statistics::GeometryTypes;
@@ -36,14 +37,17 @@ pub(crate) const LITERAL_FALSE: u32 = 5;
 pub(crate) const LAST_KIND: u32 = 6;
 
 // Doubles of a box.
-pub(crate) const ENDS: usize = 8;
+pub const ENDS: usize = 8;
+
+// Flags are below this.
+pub const FLAG_LIMIT: u8 = 8;
 
 // Words of a node.
 pub(crate) const NODE: usize = 4;
 
 // Word k of a node that is there.
 pub(crate) fn word(nodes: &[u32], node: u32, k: u32) -> u32
-    requires { ⌜ tables.HasNode (now nodes) node × (k ≤ 3) ⌝ }
+    requires { ⌜ within.HasNode (now nodes) node × (k ≤ 3) ⌝ }
     ensures { λ r. ⌜ r ≡ tables.word (now (nodes .entry)) node k ⌝ }
 {
     let at = NODE * node as usize + k as usize;
@@ -70,29 +74,48 @@ pub(crate) fn is_pair(kind: u32) -> bool
     kind == OR
 }
 
+// The children of a node.
+pub(crate) struct Pair {
+    pub(crate) left: u32,
+    pub(crate) right: u32,
+}
+
+pub(crate) enum Children {
+    Neither,
+    Both(Pair),
+}
+
+// The children of an And or an Or, where both are below it. (One that is not is refused before.)
+pub(crate) fn children_of(nodes: &[u32], node: u32) -> Children
+    requires { ⌜ within.HasNode (now nodes) node ⌝ }
+    ensures { λ r. ⌜ r ≡ within.childrenOf (now (nodes .entry)) node ⌝ }
+{
+    if is_pair(word(nodes, node, 0)) {
+        let left = word(nodes, node, 1);
+        let right = word(nodes, node, 2);
+        if left >= node {
+            return Children::Neither;
+        }
+        if right >= node {
+            return Children::Neither;
+        }
+        return Children::Both(Pair { left, right });
+    }
+    Children::Neither
+}
+
 // Interval k, of x, y, z, m, of the box at a place.
 fn interval_at(doubles: &[f64], place: usize, k: usize) -> Interval
-    requires { ⌜ (8 * place + 8 ≤ length (now doubles)) × (k ≤ 3) ⌝ }
+    requires { ⌜ (tables.ends * place + tables.ends ≤ length (now doubles)) × (k ≤ 3) ⌝ }
     ensures { λ r. ⌜ r ≡ tables.intervalAt (now (doubles .entry)) place k ⌝ }
 {
     let at = ENDS * place + 2 * k;
     Interval::new(doubles[at], doubles[at + 1])
 }
 
-// A z or m, where the flag knows it.
-fn dimension(known: bool, i: Interval) -> Dimension
-    ensures { λ r. ⌜ r ≡ tables.dimension known i ⌝ }
-{
-    if known {
-        Dimension::Known(i)
-    } else {
-        Dimension::Missing
-    }
-}
-
 // The box at a place, with its flag.
 fn box_with(doubles: &[f64], place: usize, flag: u8) -> BoundingBox
-    requires { ⌜ 8 * place + 8 ≤ length (now doubles) ⌝ }
+    requires { ⌜ tables.ends * place + tables.ends ≤ length (now doubles) ⌝ }
     ensures { λ r. ⌜ r ≡ tables.boxWith (now (doubles .entry)) place flag ⌝ }
 {
     let x = interval_at(doubles, place, 0);
@@ -102,8 +125,8 @@ fn box_with(doubles: &[f64], place: usize, flag: u8) -> BoundingBox
     BoundingBox::xyzm(
         WraparoundInterval::from_interval(x),
         y,
-        dimension(flag / 2 % 2 == 1, z),
-        dimension(flag / 4 % 2 == 1, m),
+        Dimension::known_where(flag / 2 % 2 == 1, z),
+        Dimension::known_where(flag / 4 % 2 == 1, m),
     )
 }
 
@@ -163,7 +186,7 @@ pub(crate) fn literal_of(
     literal_flags: &[u8],
     node: u32,
 ) -> BoundingBox
-    requires { ⌜ tables.HasNode (now nodes) node ⌝ }
+    requires { ⌜ within.HasNode (now nodes) node ⌝ }
     ensures { λ r. ⌜ r ≡ tables.literal (tables.table (now (nodes .entry)) (now (literals .entry)) (now («literal_flags» .entry))) node ⌝ }
 {
     let b = box_at(literals, literal_flags, word(nodes, node, 3) as usize);
@@ -193,7 +216,7 @@ pub(crate) fn record_of(
     names: &[u32],
     node: u32,
 ) -> ColumnRecord
-    requires { ⌜ tables.HasNode (now nodes) node ⌝ }
+    requires { ⌜ within.HasNode (now nodes) node ⌝ }
     ensures { λ r. ⌜ r ≡ tables.recordOf (tables.lookup named (now (names .entry))) (tables.records (now (records .entry)) (now («record_flags» .entry)) (now («record_types» .entry)) (now («types_known» .entry))) (tables.columnOf (now (nodes .entry)) node) ⌝ }
 {
     let index = word(nodes, node, 1);

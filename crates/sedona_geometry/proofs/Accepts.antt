@@ -7,7 +7,8 @@ use lib.Ieee.Fits.{and-l, and-r, and-i}
 use Rattle.sedona_geometry.specs.Float.{minNum, maxNum}
 use Rattle.sedona_geometry.specs.Interval.{Doubles, Accepts, new, plusZero, width, intersectsValue, intersectsInterval, containsInterval, isEmpty, mergeInterval, mergeValue}
 use Rattle.sedona_geometry.specs.declared.interval.Interval.{Interval}
-use Rattle.sedona_geometry.proofs.Order.{Number, Le, holds, fails, is-true, le-refl, le-trans, le-number, eq-inf}
+use Rattle.sedona_geometry.proofs.Booleans.{holds, fails, is-true}
+use Rattle.sedona_geometry.proofs.Order.{Number, Le, le-refl, le-trans, le-number, eq-inf}
 use Rattle.sedona_geometry.proofs.PlusZero.{plus-le, le-plus, of-plus-le, of-le-plus, plus-fits}
 use Rattle.sedona_geometry.proofs.MinMax.{min-le-left, min-le-right, min-fits, max-ge-left, max-ge-right, max-fits}
 use Rattle.sedona_geometry.proofs.Rounding.{sub-not-bottom, sub-wider}

@@ -15,7 +15,7 @@ use Rattle.sedona_geometry.specs.declared.interval.Interval.{Interval}
 use Rattle.sedona_geometry.specs.declared.interval.Pieces.{Pieces}
 use Rattle.sedona_geometry.specs.declared.interval.WraparoundInterval.{WraparoundInterval}
 use Rattle.sedona_geometry.specs.WraparoundInterval as wraparound
-use Rattle.sedona_geometry.specs.BoundingBox.{testKnown, joinKnown, plusZeroWhereKnown, plusZero, intersects, contains, expandBy, mergeBox, intersection}
+use Rattle.sedona_geometry.specs.BoundingBox.{testKnown, joinKnown, plusZeroWhereKnown, plusZero, intersects, contains, expandBy, mergeBox, intersection, KnownAlike, Both}
 use Rattle.sedona_geometry.specs.declared.bounding_box.Dimension.{Dimension}
 use Rattle.sedona_geometry.specs.declared.bounding_box.Dimension.the-variants.{Missing, Known}
 use Rattle.sedona_geometry.specs.declared.bounding_box.BoundingBox.{BoundingBox}
@@ -307,16 +307,10 @@ module _ {x x' y y' : WraparoundInterval} (h : SameX x x') (k : SameX y y') wher
 
 -- ---- boxes: the same dimensions are known, and all ends are alike
 abbrev pub SameKnown : Dimension → Dimension → Type 0
-SameKnown Missing Missing = Unit {0}
-SameKnown Missing (Known j) = ⊥
-SameKnown (Known i) Missing = ⊥
-SameKnown (Known i) (Known j) = SameEnds i j
+SameKnown = KnownAlike SameEnds
 
-pub record SameBox (a b : BoundingBox) : Type 0 where
-  pub x : SameX (a .x) (b .x)
-  pub y : SameEnds (a .y) (b .y)
-  pub z : SameKnown (a .z) (b .z)
-  pub m : SameKnown (a .m) (b .m)
+abbrev pub SameBox : BoundingBox → BoundingBox → Type 0
+SameBox = Both SameX SameEnds SameKnown
 
 plus-same-known : (d : Dimension) → SameKnown (plusZeroWhereKnown d) d
 plus-same-known Missing = tt

@@ -1,17 +1,21 @@
 -- Laws of boxes: merging loses nothing, a common number means intersecting, merging and intersecting keep what is contained.
 -- Each is said once for a dimension. Assumes nothing.
-use mathlib.Core.Path.{_≡_, refl, ap, _∙_}
+use mathlib.Core.Path.{_≡_, refl, sym, ap, _∙_}
 use mathlib.Core.Logic.{_⊎_, inl, inr, ⊎-elim}
-use mathlib.Core.Bool.{Bool, true, false, _&&_}
+use mathlib.Core.Bool.{true, false, _&&_}
 use lib.Ieee.Fits.{and-l, and-r}
 use Rattle.sedona_geometry.specs.Interval as interval
 use Rattle.sedona_geometry.specs.WraparoundInterval as wraparound
-use Rattle.sedona_geometry.specs.BoundingBox.{testKnown, joinKnown, dimensionsIntersect, dimensionsContain, mergeDimensions, intersectDimensions, intersects, contains, mergeBox, withX, intersection, accepted, plusZeroWhereKnown, plusZero, WhereKnown, DoublesWhereKnown, Doubles, Canonical, AcceptsAllOfKnown, NoLess, Common}
+use Rattle.sedona_geometry.specs.BoundingBox.{testKnown, joinKnown, dimensionsIntersect, dimensionsContain, mergeDimensions, intersectDimensions, intersects, contains, mergeBox, withX, intersection, accepted, plusZeroWhereKnown, plusZero, WhereKnown, WhereBothKnown, Both, Each, Doubles, Canonical, AcceptsAllOfKnown, NoLess, Common}
+use Rattle.sedona_geometry.specs.declared.interval.Interval.{Interval}
+use Rattle.sedona_geometry.specs.declared.interval.WraparoundInterval.{WraparoundInterval}
 use Rattle.sedona_geometry.specs.declared.bounding_box.Dimension.{Dimension}
 use Rattle.sedona_geometry.specs.declared.bounding_box.Dimension.the-variants.{Missing, Known}
 use Rattle.sedona_geometry.specs.declared.bounding_box.BoundingBox.{BoundingBox}
-use Rattle.sedona_geometry.proofs.Order.{Le, holds, is-true}
-use Rattle.sedona_geometry.proofs.Alike.{same-itself, plus-same-box, boxes-contain-alike}
+use Rattle.sedona_geometry.proofs.Booleans.{holds, is-true, both-true}
+use Rattle.sedona_geometry.proofs.Order.{Le}
+use Rattle.sedona_geometry.proofs.PlusZero.{same}
+use Rattle.sedona_geometry.proofs.Alike.{plus-same, x-accepts-alike, same-itself, plus-same-box, boxes-contain-alike}
 use Rattle.sedona_geometry.proofs.Canonical as canonical
 use Rattle.sedona_geometry.proofs.Canonical.{xyzm-is, stays-box, accepted-is}
 use Rattle.sedona_geometry.proofs.Accepts as plain
@@ -19,6 +23,19 @@ use Rattle.sedona_geometry.proofs.Accepts.{Contains}
 use Rattle.sedona_geometry.proofs.Wrapping as wrapping
 use Rattle.sedona_geometry.proofs.Contains as containing
 use Rattle.sedona_geometry.proofs.Contains.{Straight}
+
+-- ---- what follows of an interval follows of a box
+pub known-map : {P Q : Interval → Type 0} → ((i : Interval) → P i → Q i) → (d : Dimension) → WhereKnown P d → WhereKnown Q d
+known-map f Missing h = tt
+known-map f (Known i) h = f i h
+
+pub each-map : {P Q : Interval → Type 0} {b : BoundingBox} → ((i : Interval) → P i → Q i) → Each P b → Each Q b
+each-map {b = b} f h = record {
+  x = f (b .x .inner) (h .x);
+  y = f (b .y) (h .y);
+  z = known-map f (b .z) (h .z);
+  m = known-map f (b .m) (h .m);
+}
 
 -- ---- what is merged is made of merged parts
 pub merge-is : (a b : BoundingBox)
@@ -71,7 +88,20 @@ plus-no-less a = record {
   m = plus-known-no-less (a .m);
 }
 
-pub plus-known-doubles : (d : Dimension) → DoublesWhereKnown d → DoublesWhereKnown (plusZeroWhereKnown d)
+-- and no more
+of-plus-known : (d : Dimension) → AcceptsAllOfKnown d (plusZeroWhereKnown d)
+of-plus-known Missing = tt
+of-plus-known (Known i) = λ v h. plain.of-plus-accepts i h
+
+pub of-plus-no-less : (a : BoundingBox) → NoLess a (plusZero a)
+of-plus-no-less a = record {
+  x = λ v h. record { holds = sym (x-accepts-alike (plus-same (a .x .inner)) (same {x = v})) ∙ h .holds };
+  y = λ v h. plain.of-plus-accepts (a .y) h;
+  z = of-plus-known (a .z);
+  m = of-plus-known (a .m);
+}
+
+pub plus-known-doubles : (d : Dimension) → WhereKnown interval.Doubles d → WhereKnown interval.Doubles (plusZeroWhereKnown d)
 plus-known-doubles Missing D = tt
 plus-known-doubles (Known i) D = plain.plus-doubles D
 
@@ -84,7 +114,7 @@ plus-doubles {a} D = record {
 }
 
 -- ---- merged ends are doubles
-merge-dimensions-doubles : (d e : Dimension) → DoublesWhereKnown d → DoublesWhereKnown e → DoublesWhereKnown (mergeDimensions d e)
+merge-dimensions-doubles : (d e : Dimension) → WhereKnown interval.Doubles d → WhereKnown interval.Doubles e → WhereKnown interval.Doubles (mergeDimensions d e)
 unfolding joinKnown
 merge-dimensions-doubles Missing e D E = tt
 merge-dimensions-doubles (Known i) Missing D E = tt
@@ -121,10 +151,7 @@ no-less-trans {c} {b} {a} p q = record {
 }
 
 -- ---- boxes with a common number intersect
-four : (a b c d : Bool) → a ≡ true → b ≡ true → c ≡ true → d ≡ true → (a && b && c && d) ≡ true
-four a b c d p q r s = rw (p, q, r, s)
-
-dimensions-intersect : (d e : Dimension) → WhereKnown interval.Common d e → dimensionsIntersect d e ≡ true
+dimensions-intersect : (d e : Dimension) → WhereBothKnown interval.Common d e → dimensionsIntersect d e ≡ true
 unfolding testKnown
 dimensions-intersect Missing e c = refl
 dimensions-intersect (Known i) Missing c = refl
@@ -133,20 +160,22 @@ dimensions-intersect (Known i) (Known j) c = plain.common-intersect (c .left) (c
 pub common-intersect : {a b : BoundingBox} → Common a b → intersects a b ≡ true
 unfolding intersects
 common-intersect {a} {b} c =
-    four (wraparound.intersectsInterval (a .x) (b .x)) (interval.intersectsInterval (a .y) (b .y)) (dimensionsIntersect (a .z) (b .z)) (dimensionsIntersect (a .m) (b .m))
-    (wrapping.common-intersect (c .x .left) (c .x .right)) (plain.common-intersect (c .y .left) (c .y .right))
-    (dimensions-intersect (a .z) (b .z) (c .z)) (dimensions-intersect (a .m) (b .m) (c .m))
+    both-true (both-true (both-true (wrapping.common-intersect (c .x .left) (c .x .right)) (plain.common-intersect (c .y .left) (c .y .right)))
+    (dimensions-intersect (a .z) (b .z) (c .z))) (dimensions-intersect (a .m) (b .m) (c .m))
 
 -- ---- what is contained, dimension by dimension
-pub record Parts (a k : BoundingBox) : Type 0 where
-  pub x : wraparound.containsInterval (a .x) (k .x) ≡ true
-  pub y : Contains (a .y) (k .y)
-  pub z : dimensionsContain (a .z) (k .z) ≡ true
-  pub m : dimensionsContain (a .m) (k .m) ≡ true
+abbrev pub XContains : WraparoundInterval → WraparoundInterval → Type 0
+XContains x y = wraparound.containsInterval x y ≡ true
 
-pub parts : {a k : BoundingBox} → contains a k ≡ true → Parts a k
+abbrev pub KnownContains : Dimension → Dimension → Type 0
+KnownContains d e = dimensionsContain d e ≡ true
+
+abbrev pub Parts : BoundingBox → BoundingBox → Type 0
+Parts = Both XContains Contains KnownContains
+
+pub parts-of-contains : {a k : BoundingBox} → contains a k ≡ true → Parts a k
 unfolding contains
-parts {a} {k} h =
+parts-of-contains {a} {k} h =
     let p = wraparound.containsInterval (a .x) (k .x) in
     let q = interval.containsInterval (a .y) (k .y) in
     let r = dimensionsContain (a .z) (k .z) in
@@ -160,15 +189,16 @@ parts {a} {k} h =
       m = is-true s (and-r (p && q && r) s (holds h));
     }
 
-pub whole : {a k : BoundingBox} → Parts a k → contains a k ≡ true
+pub contains-of-parts : {a k : BoundingBox} → Parts a k → contains a k ≡ true
 unfolding contains
-whole {a} {k} p =
-    four (wraparound.containsInterval (a .x) (k .x)) (interval.containsInterval (a .y) (k .y)) (dimensionsContain (a .z) (k .z)) (dimensionsContain (a .m) (k .m))
-    (p .x) (p .y .holds) (p .z) (p .m)
+contains-of-parts p = both-true (both-true (both-true (p .x) (p .y .holds)) (p .z)) (p .m)
 
 -- ---- a box handed on contains what it contained
 pub plus-contains : (a k : BoundingBox) → contains a k ≡ true → contains (plusZero a) k ≡ true
 plus-contains a k h = boxes-contain-alike (plus-same-box a) (same-itself k) ∙ h
+
+pub of-plus-contains : (a k : BoundingBox) → contains (plusZero a) k ≡ true → contains a k ≡ true
+of-plus-contains a k h = sym (boxes-contain-alike (plus-same-box a) (same-itself k)) ∙ h
 
 -- ---- where no x wraps and the other's is not empty, a box contains what it contains in the Rust
 pub contains-as-the-rust : (a b : BoundingBox) → wraparound.isWraparound (a .x) ≡ false → wraparound.isWraparound (b .x) ≡ false → wraparound.isEmpty (b .x) ≡ false
@@ -195,17 +225,13 @@ merge-contains {a} {b} {k} D E h = rw (merge-is a b) (record {
 })
 
 -- ---- an intersection keeps what both contain, where x runs straight and what is contained runs low to high
-abbrev pub LowToHighWhereKnown : Dimension → Type 0
-LowToHighWhereKnown Missing = Unit {0}
-LowToHighWhereKnown (Known i) = Le (i .lo) (i .hi)
+abbrev pub Rising : Interval → Type 0
+Rising i = Le (i .lo) (i .hi)
 
-pub record LowToHigh (k : BoundingBox) : Type 0 where
-  pub x : Le (k .x .inner .lo) (k .x .inner .hi)
-  pub y : Le (k .y .lo) (k .y .hi)
-  pub z : LowToHighWhereKnown (k .z)
-  pub m : LowToHighWhereKnown (k .m)
+abbrev pub LowToHigh : BoundingBox → Type 0
+LowToHigh = Each Rising
 
-intersect-dimensions-contain : (d e k : Dimension) → LowToHighWhereKnown k → dimensionsContain d k ≡ true → dimensionsContain e k ≡ true → dimensionsContain (intersectDimensions d e) k ≡ true
+intersect-dimensions-contain : (d e k : Dimension) → WhereKnown Rising k → dimensionsContain d k ≡ true → dimensionsContain e k ≡ true → dimensionsContain (intersectDimensions d e) k ≡ true
 unfolding testKnown joinKnown
 intersect-dimensions-contain Missing e k l h g = refl
 intersect-dimensions-contain (Known i) Missing k l h g = refl

@@ -9,7 +9,7 @@ use Rattle.sedona_geometry.specs.Interval as interval
 use Rattle.sedona_geometry.specs.Interval.{Canonical}
 use Rattle.sedona_geometry.specs.WraparoundInterval as wraparound
 use Rattle.sedona_geometry.specs.BoundingBox as boundingBox
-use Rattle.sedona_geometry.specs.BoundingBox.{CanonicalWhereKnown}
+use Rattle.sedona_geometry.specs.BoundingBox.{WhereKnown}
 use Rattle.sedona_geometry.specs.declared.interval.Interval.{Interval}
 use Rattle.sedona_geometry.specs.declared.interval.WraparoundInterval.{WraparoundInterval}
 use Rattle.sedona_geometry.specs.declared.interval.Pieces.{Pieces}
@@ -20,6 +20,7 @@ use Rattle.sedona_geometry.specs.declared.interval.Intersection.the-vari
 use Rattle.sedona_geometry.specs.declared.bounding_box.Dimension.{Dimension}
 use Rattle.sedona_geometry.specs.declared.bounding_box.Dimension.the-variants.{Missing, Known}
 use Rattle.sedona_geometry.specs.declared.bounding_box.BoundingBox.{BoundingBox}
+use Rattle.sedona_geometry.proofs.Booleans.{of-cond}
 use Rattle.sedona_geometry.proofs.PlusZero.{never-minus, stays}
 
 -- ---- floats
@@ -45,10 +46,6 @@ empty-canonical = record { lo = refl; hi = refl }
 pub full-canonical : Canonical interval.full
 full-canonical = record { lo = refl; hi = refl }
 
-either : {A : Type 0} (P : A → Type 0) (b : Bool) {x y : A} → P x → P y → P (cond b x y)
-either P true c d = c
-either P false c d = d
-
 pub merge-canonical : (i j : Interval) → Canonical (interval.mergeInterval i j)
 unfolding interval.mergeInterval
 merge-canonical i j = new-canonical (float.minNum (i .lo) (j .lo)) (float.maxNum (i .hi) (j .hi))
@@ -59,14 +56,14 @@ merge-value-canonical i v = new-canonical (float.minNum (i .lo) v) (float.maxNum
 
 pub expand-canonical : (i : Interval) (d : Float) → Canonical (interval.expandBy i d)
 unfolding interval.expandBy
-expand-canonical i d = either Canonical (interval.isUnmovedBy i d) (new-canonical (i .lo) (i .hi)) (new-canonical (sub binary64 (i .lo) d) (add binary64 (i .hi) d))
+expand-canonical i d = of-cond Canonical (interval.isUnmovedBy i d) (new-canonical (i .lo) (i .hi)) (new-canonical (sub binary64 (i .lo) d) (add binary64 (i .hi) d))
 
 pub intersection-canonical : (i j : Interval) → Canonical (interval.intersection i j)
 unfolding interval.intersection
 intersection-canonical i j =
     let lo = float.maxNum (i .lo) (j .lo) in
     let hi = float.minNum (i .hi) (j .hi) in
-    either Canonical (lt hi lo) empty-canonical (new-canonical lo hi)
+    of-cond Canonical (lt hi lo) empty-canonical (new-canonical lo hi)
 
 -- ---- x
 abbrev CanonicalX : WraparoundInterval → Type 0
@@ -94,7 +91,7 @@ pub data CanonicalWherePlain : Conversion → Type 0 where
 
 pub try-into-interval-canonical : (x : WraparoundInterval) → CanonicalWherePlain (wraparound.tryIntoInterval x)
 unfolding wraparound.tryIntoInterval
-try-into-interval-canonical x = either CanonicalWherePlain (wraparound.isWraparound x) no-plain (plain (new-canonical (x .inner .lo) (x .inner .hi)))
+try-into-interval-canonical x = of-cond CanonicalWherePlain (wraparound.isWraparound x) no-plain (plain (new-canonical (x .inner .lo) (x .inner .hi)))
 
 pub split-canonical : (x : WraparoundInterval) → Canonical (wraparound.split x .left) × Canonical (wraparound.split x .right)
 unfolding wraparound.split
@@ -107,12 +104,12 @@ split-canonical x = go (wraparound.isWraparound x)
 
 from-pieces-canonical : (l r : Interval) → CanonicalX (wraparound.fromPieces l r)
 unfolding wraparound.fromPieces
-from-pieces-canonical l r = either CanonicalX (interval.intersectsInterval l r) full-canonical (new-canonical (r .lo) (l .hi))
+from-pieces-canonical l r = of-cond CanonicalX (interval.intersectsInterval l r) full-canonical (new-canonical (r .lo) (l .hi))
 
 merge-plain-canonical : (x y : WraparoundInterval) → CanonicalX (wraparound.mergePlain x y)
 unfolding wraparound.mergePlain
 merge-plain-canonical x y =
-    either CanonicalX (wraparound.nearerLeft x y)
+    of-cond CanonicalX (wraparound.nearerLeft x y)
     (from-pieces-canonical (interval.mergeInterval (wraparound.split x .left) (y .inner)) (wraparound.split x .right))
     (from-pieces-canonical (wraparound.split x .left) (interval.mergeInterval (wraparound.split x .right) (y .inner)))
 
@@ -123,25 +120,25 @@ merge-wrapped-canonical x y = from-pieces-canonical _ _
 pub merge-x-canonical : (x y : WraparoundInterval) → CanonicalX (wraparound.mergeInterval x y)
 unfolding wraparound.mergeInterval wraparound.mergeNonEmpty
 merge-x-canonical x y =
-    either CanonicalX (wraparound.isEmpty x) (from-interval-canonical (y .inner))
-    (either CanonicalX (wraparound.isEmpty y) (from-interval-canonical (x .inner))
-    (either CanonicalX (wraparound.isWraparound x)
-    (either CanonicalX (wraparound.isWraparound y) (merge-wrapped-canonical x y) (merge-plain-canonical x y))
-    (either CanonicalX (wraparound.isWraparound y) (merge-plain-canonical y x) (from-interval-canonical (interval.mergeInterval (x .inner) (y .inner))))))
+    of-cond CanonicalX (wraparound.isEmpty x) (from-interval-canonical (y .inner))
+    (of-cond CanonicalX (wraparound.isEmpty y) (from-interval-canonical (x .inner))
+    (of-cond CanonicalX (wraparound.isWraparound x)
+    (of-cond CanonicalX (wraparound.isWraparound y) (merge-wrapped-canonical x y) (merge-plain-canonical x y))
+    (of-cond CanonicalX (wraparound.isWraparound y) (merge-plain-canonical y x) (from-interval-canonical (interval.mergeInterval (x .inner) (y .inner))))))
 
 pub merge-value-x-canonical : (x : WraparoundInterval) (v : Float) → CanonicalX (wraparound.mergeValue x v)
 unfolding wraparound.mergeValue wraparound.moveEnd
 merge-value-x-canonical x v =
-    either CanonicalX (wraparound.intersectsValue x v || isNan v) (from-interval-canonical (x .inner))
-    (either CanonicalX (not (wraparound.isWraparound x)) (from-interval-canonical (interval.mergeValue (x .inner) v))
-    (either CanonicalX (lt (sub binary64 v (x .inner .hi)) (sub binary64 (x .inner .lo) v)) (new-canonical (x .inner .lo) v) (new-canonical v (x .inner .hi))))
+    of-cond CanonicalX (wraparound.intersectsValue x v || isNan v) (from-interval-canonical (x .inner))
+    (of-cond CanonicalX (not (wraparound.isWraparound x)) (from-interval-canonical (interval.mergeValue (x .inner) v))
+    (of-cond CanonicalX (lt (sub binary64 v (x .inner .hi)) (sub binary64 (x .inner .lo) v)) (new-canonical (x .inner .lo) v) (new-canonical v (x .inner .hi))))
 
 pub expand-x-canonical : (x : WraparoundInterval) (d : Float) → CanonicalX (wraparound.expandBy x d)
 unfolding wraparound.expandBy wraparound.excluding
 expand-x-canonical x d =
-    either CanonicalX (interval.isUnmovedBy (x .inner) d) (from-interval-canonical (x .inner))
-    (either CanonicalX (not (wraparound.isWraparound x)) (from-interval-canonical (interval.expandBy (x .inner) d))
-    (either CanonicalX (le (sub binary64 (x .inner .lo) d) (add binary64 (x .inner .hi) d)) full-canonical
+    of-cond CanonicalX (interval.isUnmovedBy (x .inner) d) (from-interval-canonical (x .inner))
+    (of-cond CanonicalX (not (wraparound.isWraparound x)) (from-interval-canonical (interval.expandBy (x .inner) d))
+    (of-cond CanonicalX (le (sub binary64 (x .inner .lo) d) (add binary64 (x .inner .hi) d)) full-canonical
     (new-canonical (sub binary64 (x .inner .lo) d) (add binary64 (x .inner .hi) d))))
 
 -- an intersection's x, where it is not refused
@@ -155,39 +152,39 @@ intersect-plain-canonical x y =
     let p = wraparound.split y in
     let meets-left = interval.intersectsInterval (x .inner) (p .left) in
     let meets-right = interval.intersectsInterval (x .inner) (p .right) in
-    either CanonicalWhereSingle meets-left
-    (either CanonicalWhereSingle meets-right no-single (single (from-interval-canonical (interval.intersection (x .inner) (p .left)))))
-    (either CanonicalWhereSingle meets-right (single (from-interval-canonical (interval.intersection (x .inner) (p .right)))) (single empty-x-canonical))
+    of-cond CanonicalWhereSingle meets-left
+    (of-cond CanonicalWhereSingle meets-right no-single (single (from-interval-canonical (interval.intersection (x .inner) (p .left)))))
+    (of-cond CanonicalWhereSingle meets-right (single (from-interval-canonical (interval.intersection (x .inner) (p .right)))) (single empty-x-canonical))
 
 pub intersection-x-canonical : (x y : WraparoundInterval) → CanonicalWhereSingle (wraparound.intersection x y)
 unfolding wraparound.intersection wraparound.intersectWrapped
 intersection-x-canonical x y =
     let union = interval.mergeInterval (wraparound.excluded x) (wraparound.excluded y) in
-    either CanonicalWhereSingle (wraparound.isWraparound x)
-    (either CanonicalWhereSingle (wraparound.isWraparound y)
-    (either CanonicalWhereSingle (interval.intersectsInterval (wraparound.excluded x) (wraparound.excluded y)) (single (new-x-canonical (union .hi) (union .lo))) no-single)
+    of-cond CanonicalWhereSingle (wraparound.isWraparound x)
+    (of-cond CanonicalWhereSingle (wraparound.isWraparound y)
+    (of-cond CanonicalWhereSingle (interval.intersectsInterval (wraparound.excluded x) (wraparound.excluded y)) (single (new-x-canonical (union .hi) (union .lo))) no-single)
     (intersect-plain-canonical y x))
-    (either CanonicalWhereSingle (wraparound.isWraparound y) (intersect-plain-canonical x y) (single (from-interval-canonical (interval.intersection (x .inner) (y .inner)))))
+    (of-cond CanonicalWhereSingle (wraparound.isWraparound y) (intersect-plain-canonical x y) (single (from-interval-canonical (interval.intersection (x .inner) (y .inner)))))
 
 -- ---- dimensions
-plus-zero-where-known-canonical : (d : Dimension) → CanonicalWhereKnown (boundingBox.plusZeroWhereKnown d)
+plus-zero-where-known-canonical : (d : Dimension) → WhereKnown Canonical (boundingBox.plusZeroWhereKnown d)
 plus-zero-where-known-canonical Missing = tt
 plus-zero-where-known-canonical (Known i) = new-canonical (i .lo) (i .hi)
 
-stays-where-known : (d : Dimension) → CanonicalWhereKnown d → boundingBox.plusZeroWhereKnown d ≡ d
+stays-where-known : (d : Dimension) → WhereKnown Canonical d → boundingBox.plusZeroWhereKnown d ≡ d
 stays-where-known Missing c = refl
 stays-where-known (Known i) c = ap (λ (j : Interval). Known j) (stays-interval c)
 
-join-canonical : (f : Interval → Interval → Interval) → ((i j : Interval) → Canonical (f i j)) → (d e : Dimension) → CanonicalWhereKnown (boundingBox.joinKnown f d e)
+join-canonical : (f : Interval → Interval → Interval) → ((i j : Interval) → Canonical (f i j)) → (d e : Dimension) → WhereKnown Canonical (boundingBox.joinKnown f d e)
 unfolding boundingBox.joinKnown
 join-canonical f c Missing e = tt
 join-canonical f c (Known i) Missing = tt
 join-canonical f c (Known i) (Known j) = c i j
 
-pub merge-dimensions-canonical : (d e : Dimension) → CanonicalWhereKnown (boundingBox.mergeDimensions d e)
+pub merge-dimensions-canonical : (d e : Dimension) → WhereKnown Canonical (boundingBox.mergeDimensions d e)
 merge-dimensions-canonical d e = join-canonical interval.mergeInterval merge-canonical d e
 
-pub intersect-dimensions-canonical : (d e : Dimension) → CanonicalWhereKnown (boundingBox.intersectDimensions d e)
+pub intersect-dimensions-canonical : (d e : Dimension) → WhereKnown Canonical (boundingBox.intersectDimensions d e)
 intersect-dimensions-canonical d e = join-canonical interval.intersection intersection-canonical d e
 
 -- ---- boxes
@@ -200,7 +197,7 @@ xyzm-canonical x y z m = record {
 }
 
 -- made of canonical parts, it is made of these
-pub xyzm-is : (x : WraparoundInterval) (y : Interval) (z m : Dimension) → CanonicalX x → Canonical y → CanonicalWhereKnown z → CanonicalWhereKnown m
+pub xyzm-is : (x : WraparoundInterval) (y : Interval) (z m : Dimension) → CanonicalX x → Canonical y → WhereKnown Canonical z → WhereKnown Canonical m
     → boundingBox.xyzm x y z m ≡ record { x = x; y = y; z = z; m = m }
 xyzm-is x y z m cx cy cz cm = rw (stays-x cx, stays-interval cy, stays-where-known z cz, stays-where-known m cm)
 

@@ -13,7 +13,8 @@ use Rattle.sedona_geometry.specs.WraparoundInterval.{Accepts, fromInterv
 use Rattle.sedona_geometry.specs.declared.interval.Interval.{Interval}
 use Rattle.sedona_geometry.specs.declared.interval.WraparoundInterval.{WraparoundInterval}
 use Rattle.sedona_geometry.specs.declared.interval.Intersection.{Intersection}
-use Rattle.sedona_geometry.proofs.Order.{Number, Le, holds, fails, is-true, is-false, or-left, or-right, or-cases, le-of-eq, le-of-not-lt, le-refl, le-trans, le-number, lt-not-le}
+use Rattle.sedona_geometry.proofs.Booleans.{holds, fails, is-true, is-false, or-left, or-right, or-cases}
+use Rattle.sedona_geometry.proofs.Order.{Number, Le, le-of-eq, le-of-not-lt, le-refl, le-trans, le-number, lt-not-le}
 use Rattle.sedona_geometry.proofs.MinMax.{min-le-left, min-le-right, min-greatest, min-fits, max-ge-left, max-ge-right, max-least, max-fits}
 use Rattle.sedona_geometry.proofs.PlusZero.{plus-le-plus, of-plus-le, of-le-plus}
 use Rattle.sedona_geometry.proofs.Alike.{plus-same, empty-alike, contains-alike, pieces-contain-alike}

@@ -10,15 +10,17 @@ use lib.Dec.{T}
 use lib.Ieee.{Float, nan, inf, fin, binary64, fits, add, sub, div, neg, sum, lt, le, eq, isNan, round, ofInt, ofBits, toBits}
 use Rattle.sedona_geometry.specs.Float as float
 use Rattle.sedona_geometry.specs.Interval as interval
+use Rattle.sedona_geometry.specs.Lists.{All}
 use Rattle.sedona_geometry.specs.WraparoundInterval as wraparound
-use Rattle.sedona_geometry.specs.BoundingBox.{xyzm, testKnown, dimensionsContain, intersects, contains, mergeBox, Doubles, EqualNumbers, bits, NoLess, Common}
+use Rattle.sedona_geometry.specs.BoundingBox.{xyzm, testKnown, dimensionsContain, withX, intersection, intersects, contains, mergeBox, Doubles, EqualNumbers, bits, NoLess, Common}
 use Rattle.sedona_geometry.specs.declared.interval.Interval.{Interval}
 use Rattle.sedona_geometry.specs.declared.interval.WraparoundInterval.{WraparoundInterval}
 use Rattle.sedona_geometry.specs.declared.interval.Conversion.{Conversion}
 use Rattle.sedona_geometry.specs.declared.interval.Intersection.{Intersection}
 use Rattle.sedona_geometry.specs.declared.bounding_box.Dimension.the-variants.{Missing, Known}
 use Rattle.sedona_geometry.specs.declared.bounding_box.BoundingBox.{BoundingBox}
-use Rattle.sedona_geometry.proofs.Order.{Number, Lt, holds, fails, number-of-test}
+use Rattle.sedona_geometry.proofs.Booleans.{holds, fails}
+use Rattle.sedona_geometry.proofs.Order.{Number, Lt, number-of-test}
 use Rattle.sedona_geometry.proofs.PlusZero.{zeros}
 use Rattle.sedona_geometry.proofs.Alike.{same-itself, boxes-merge-alike}
 use Rattle.sedona_geometry.proofs.Canonical.{xyzm-canonical}
@@ -86,10 +88,6 @@ pub number-kept : wraparound.Accepts (wraparound.mergeValue wrapped value) (comm
 number-kept = wrapping.merge-value-keeps value wrapped-doubles value-fits (common-x .left)
 
 -- ---- what an x contains, as request 5 has it: computed
-abbrev All : {A : Type 0} → (A → Type 0) → List A → Type 0
-All P [] = Unit {0}
-All P (c ∷ cs) = P c × All P cs
-
 abbrev Answers : WraparoundInterval → List (WraparoundInterval × Bool) → Type 0
 Answers x [] = Unit {0}
 Answers x ((k, b) ∷ ks) = (wraparound.containsInterval x k ≡ b) × Answers x ks
@@ -316,3 +314,14 @@ merged-alike =
     boxes-merge-alike
     (record { x = record { lo = zeros; hi = zeros }; y = record { lo = zeros; hi = zeros }; z = record { lo = zeros; hi = zeros }; m = tt })
     (same-itself a)
+
+-- ---- the numbers, as numerals: 2 for an x that wraps and should not, 1 for what would have two parts, of an x and of a box
+pub two-of-wrapped : wraparound.tryIntoInterval (wraparound.new (plus 20) (plus 10)) ≡ Conversion.Refused 2
+unfolding sub neg sum round lt eq ofInt interval.isEmpty wraparound.isWraparound wraparound.tryIntoInterval
+two-of-wrapped = refl
+
+pub one-of-parts : (wraparound.intersection (wraparound.new (plus 0) (plus 30)) (wraparound.new (plus 20) (plus 10)) ≡ Intersection.Refused 1)
+    × (wraparound.intersection (wraparound.new (plus 20) (plus 10)) (wraparound.new (plus 50) (plus 40)) ≡ Intersection.Refused 1)
+    × (intersection (xyzm (wraparound.new (plus 0) (plus 30)) interval.full Missing Missing) (xyzm (wraparound.new (plus 20) (plus 10)) interval.full Missing Missing) .number ≡ 1)
+unfolding sub neg sum round lt le eq isNan ofInt float.minNum float.maxNum interval.isEmpty interval.intersectsInterval interval.mergeInterval wraparound.isWraparound wraparound.split wraparound.intersectPlain wraparound.intersectWrapped wraparound.intersection withX intersection
+one-of-parts = (refl, refl, refl)

@@ -6,12 +6,13 @@ use lib.Ieee.{Float, binary64, eq, ne, fits}
 use borrow.Author.Tests.{not-false}
 use Rattle.sedona_geometry.specs.Float.{plusZero, isMinusZero}
 use Rattle.sedona_geometry.specs.Interval as interval
-use Rattle.sedona_geometry.specs.BoundingBox.{Doubles, DoublesWhereKnown, Canonical, CanonicalWhereKnown, EqualNumbers, EqualWhereKnown, bits}
+use Rattle.sedona_geometry.specs.BoundingBox.{WhereKnown, KnownAlike, Doubles, Canonical, EqualNumbers, bits}
 use Rattle.sedona_geometry.specs.declared.interval.Interval.{Interval}
 use Rattle.sedona_geometry.specs.declared.bounding_box.Dimension.{Dimension}
 use Rattle.sedona_geometry.specs.declared.bounding_box.Dimension.the-variants.{Missing, Known}
 use Rattle.sedona_geometry.specs.declared.bounding_box.BoundingBox.{BoundingBox}
-use Rattle.sedona_geometry.proofs.Order.{Number, holds, ne-self, number-test}
+use Rattle.sedona_geometry.proofs.Booleans.{holds}
+use Rattle.sedona_geometry.proofs.Order.{Number, ne-self, number-test}
 use Rattle.sedona_geometry.proofs.PlusZero.{same, alike-plus, stays, plus-alike, eq-alike}
 use Rattle.sedona_geometry.proofs.Exact.{equal-alike}
 
@@ -23,7 +24,7 @@ pub same-interval : {i j : Interval} → interval.Doubles i → interval.Doubles
 same-interval {i} {j} D E c d e =
     ap₂ (λ (l h : Float). record { lo = l; hi = h }) (same-double (i .lo) (j .lo) (D .lo) (E .lo) (c .lo) (d .lo) (e .lo)) (same-double (i .hi) (j .hi) (D .hi) (E .hi) (c .hi) (d .hi) (e .hi))
 
-same-dimension : (d e : Dimension) → DoublesWhereKnown d → DoublesWhereKnown e → CanonicalWhereKnown d → CanonicalWhereKnown e → EqualWhereKnown d e → d ≡ e
+same-dimension : (d e : Dimension) → WhereKnown interval.Doubles d → WhereKnown interval.Doubles e → WhereKnown interval.Canonical d → WhereKnown interval.Canonical e → KnownAlike interval.EqualNumbers d e → d ≡ e
 same-dimension Missing Missing D E c k h = refl
 same-dimension Missing (Known j) D E c k h = absurd h
 same-dimension (Known i) Missing D E c k h = absurd h

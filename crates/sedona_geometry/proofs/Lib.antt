@@ -1,6 +1,7 @@
 pub mod Accepts
 pub mod Alike
 pub mod Bits
+pub mod Booleans
 pub mod Boxes
 pub mod Canonical
 pub mod Contains

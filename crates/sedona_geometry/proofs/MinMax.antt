@@ -4,7 +4,8 @@ use mathlib.Core.Bool.{Bool, true, false, cond}
 use lib.Dec.{T}
 use lib.Ieee.{Float, Format, lt, isNan, fits}
 use Rattle.sedona_geometry.specs.Float.{plusZero, minNum, maxNum}
-use Rattle.sedona_geometry.proofs.Order.{Number, Le, number-of-test, number-test, le-trans, le-of-lt, le-of-not-lt, le-number, fails, holds}
+use Rattle.sedona_geometry.proofs.Booleans.{fails, holds}
+use Rattle.sedona_geometry.proofs.Order.{Number, Le, number-of-test, number-test, le-trans, le-of-lt, le-of-not-lt, le-number}
 use Rattle.sedona_geometry.proofs.PlusZero.{plus-le, le-plus, plus-fits}
 
 -- r is the one of x and y that comes first in the order R, where a NaN comes last; made +0.

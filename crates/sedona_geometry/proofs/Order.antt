@@ -2,7 +2,7 @@
 -- Assumes nothing.
 use mathlib.Core.Path.{_≡_, refl, sym, subst}
 use mathlib.Core.Logic.{_⊎_, inl, inr, _↔_}
-use mathlib.Core.Bool.{Bool, true, false, not, _&&_, _||_}
+use mathlib.Core.Bool.{Bool, true, false, not, _&&_}
 use Prim.Native.Nat.{ℕ, _+_, _*_, _≤_, _<_}
 use native.Mathlib.Nat.{zero-mul, mul-le-mul-right, le-of-mul-le-mul-right, eq-or-lt-of-le}
 use native.Mathlib.Omega.{arith}
@@ -11,6 +11,7 @@ use lib.Dec.{T, leb, eqb, ltb→lt, lt→ltb, eqb→eq, leb→le, nleb→lt}
 use lib.Ieee.{Float, nan, inf, fin, up, down, below, level, lt, eq, le, ne, isNan}
 use lib.Ieee.Compare.{differs-from-itself}
 use lib.Ieee.Fits.{down-pos, and-l, and-r, and-i, eq→eqb}
+use Rattle.sedona_geometry.proofs.Booleans.{fails, is-false, or-left, or-right, or-cases}
 
 -- x is no NaN
 pub data Number : Float → Type 0 where
@@ -24,33 +25,6 @@ pub record Le (x y : Float) : Type 0 where
 -- x < y
 pub record Lt (x y : Float) : Type 0 where
   pub test : T (lt x y)
-
--- ---- tests, as an `if` leaves them
-pub holds : {b : Bool} → b ≡ true → T b
-holds e = subst T (sym e) tt
-
-pub fails : {b : Bool} → b ≡ false → T b → ⊥
-fails e h = subst T e h
-
-pub is-true : (b : Bool) → T b → b ≡ true
-is-true true h = refl
-is-true false h = absurd h
-
-pub is-false : (b : Bool) → (T b → ⊥) → b ≡ false
-is-false true h = absurd (h tt)
-is-false false h = refl
-
-pub or-left : (a b : Bool) → T a → T (a || b)
-or-left true b h = tt
-or-left false b h = absurd h
-
-pub or-right : (a b : Bool) → T b → T (a || b)
-or-right true b h = tt
-or-right false b h = h
-
-pub or-cases : (a b : Bool) → T (a || b) → T a ⊎ T b
-or-cases true b h = inl tt
-or-cases false b h = inr h
 
 -- ---- a finite value is (over - under) / den
 abbrev pub over : Bool → ℕ → ℕ

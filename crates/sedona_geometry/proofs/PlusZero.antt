@@ -8,7 +8,8 @@ use lib.IntN.{ℤ}
 use lib.Dec.{T, ltb, eqb, ltb→lt}
 use lib.Ieee.{Float, nan, inf, fin, Format, up, down, below, level, lt, eq, le, isNan, fits}
 use Rattle.sedona_geometry.specs.Float.{plusZero, isMinusZero}
-use Rattle.sedona_geometry.proofs.Order.{Le, Lt, fails, is-false}
+use Rattle.sedona_geometry.proofs.Booleans.{fails, is-false}
+use Rattle.sedona_geometry.proofs.Order.{Le, Lt}
 
 -- ---- what it gives
 pub never-minus : (x : Float) → isMinusZero (plusZero x) ≡ false

@@ -6,10 +6,12 @@ use lib.Ieee.{le}
 use lib.Ieee.Fits.{and-l, and-r, and-i}
 use Rattle.sedona_geometry.specs.Interval as interval
 use Rattle.sedona_geometry.specs.Interval.{Doubles}
-use Rattle.sedona_geometry.specs.WraparoundInterval.{fromInterval, bothRise, piecesIntersect, intersectsInterval, containsInterval, mergeInterval}
+use Rattle.sedona_geometry.specs.Within.{bothRise}
+use Rattle.sedona_geometry.specs.WraparoundInterval.{fromInterval, piecesIntersect, intersectsInterval, containsInterval, mergeInterval}
 use Rattle.sedona_geometry.specs.declared.interval.Interval.{Interval}
 use Rattle.sedona_geometry.specs.declared.interval.WraparoundInterval.{WraparoundInterval}
-use Rattle.sedona_geometry.proofs.Order.{Le, holds, le-trans, le-number, top, bottom, below-bottom, top-not-bottom}
+use Rattle.sedona_geometry.proofs.Booleans.{holds}
+use Rattle.sedona_geometry.proofs.Order.{Le, le-trans, le-number, top, bottom, below-bottom, top-not-bottom}
 use Rattle.sedona_geometry.proofs.PlusZero.{same}
 use Rattle.sedona_geometry.proofs.Alike.{SameEnds, plus-same, intersects-alike}
 use Rattle.sedona_geometry.proofs.Wrapping.{low-to-high-plain, split-plain}

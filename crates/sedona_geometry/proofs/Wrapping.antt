@@ -12,7 +12,8 @@ use Rattle.sedona_geometry.specs.WraparoundInterval.{Accepts, fromInterv
 use Rattle.sedona_geometry.specs.declared.interval.Interval.{Interval}
 use Rattle.sedona_geometry.specs.declared.interval.WraparoundInterval.{WraparoundInterval}
 use Rattle.sedona_geometry.specs.declared.interval.Pieces.{Pieces}
-use Rattle.sedona_geometry.proofs.Order.{Number, infinite, Le, Lt, holds, fails, is-true, is-false, or-left, or-right, or-cases, le-of-lt, le-of-not-lt, le-refl, le-trans, le-number, lt-number, lt-of-not-le, bottom, top, eq-inf, below-bottom, top-not-bottom, number-of-test, number-test}
+use Rattle.sedona_geometry.proofs.Booleans.{holds, fails, is-true, is-false, or-left, or-right, or-cases}
+use Rattle.sedona_geometry.proofs.Order.{Number, infinite, Le, Lt, le-of-lt, le-of-not-lt, le-refl, le-trans, le-number, lt-number, lt-of-not-le, bottom, top, eq-inf, below-bottom, top-not-bottom, number-of-test, number-test}
 use Rattle.sedona_geometry.proofs.MinMax.{min-le-left, max-ge-left}
 use Rattle.sedona_geometry.proofs.Rounding.{sub-not-neg, sub-neg, sub-pos, lt-of-sub-neg, sub-wider}
 use Rattle.sedona_geometry.proofs.PlusZero.{same, plus-le, le-plus, plus-le-plus, of-plus-le, of-le-plus, plus-lt-plus}

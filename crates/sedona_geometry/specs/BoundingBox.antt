@@ -39,6 +39,10 @@ mergeDimensions d e = joinKnown interval.mergeInterval d e
 abbrev pub intersectDimensions : Dimension → Dimension → Dimension
 intersectDimensions d e = joinKnown interval.intersection d e
 
+-- An interval, where it is known.
+abbrev pub knownWhere : Bool → Interval → Dimension
+knownWhere known i = cond known (Known i) Missing
+
 -- A dimension as a call hands it on.
 abbrev pub plusZeroWhereKnown : Dimension → Dimension
 plusZeroWhereKnown Missing = Missing
@@ -108,47 +112,53 @@ intersection a b =
 
 -- ---- what the laws speak of
 
--- What is said of two intervals, said of two dimensions: where both are known.
-abbrev pub WhereKnown : (Interval → Interval → Type 0) → Dimension → Dimension → Type 0
-WhereKnown R Missing e = Unit {0}
-WhereKnown R (Known i) Missing = Unit {0}
-WhereKnown R (Known i) (Known j) = R i j
+-- Of x, of y, and of each of z and m: the form of all that is said of one box. A further dimension is a line more in each of these two forms.
+pub record Every (X : WraparoundInterval → Type 0) (Y : Interval → Type 0) (D : Dimension → Type 0) (a : BoundingBox) : Type 0 where
+  pub x : X (a .x)
+  pub y : Y (a .y)
+  pub z : D (a .z)
+  pub m : D (a .m)
 
-abbrev pub DoublesWhereKnown : Dimension → Type 0
-DoublesWhereKnown Missing = Unit {0}
-DoublesWhereKnown (Known i) = interval.Doubles i
+-- Of those of two boxes.
+pub record Both (X : WraparoundInterval → WraparoundInterval → Type 0) (Y : Interval → Interval → Type 0) (D : Dimension → Dimension → Type 0) (a b : BoundingBox) : Type 0 where
+  pub x : X (a .x) (b .x)
+  pub y : Y (a .y) (b .y)
+  pub z : D (a .z) (b .z)
+  pub m : D (a .m) (b .m)
+
+-- What is said of an interval, said of a dimension: where it is known.
+abbrev pub WhereKnown : (Interval → Type 0) → Dimension → Type 0
+WhereKnown P Missing = Unit {0}
+WhereKnown P (Known i) = P i
+
+-- What is said of two intervals, said of two dimensions: where both are known.
+abbrev pub WhereBothKnown : (Interval → Interval → Type 0) → Dimension → Dimension → Type 0
+WhereBothKnown R Missing e = Unit {0}
+WhereBothKnown R (Known i) Missing = Unit {0}
+WhereBothKnown R (Known i) (Known j) = R i j
+
+-- Both are missing, or both known and this is so of them.
+abbrev pub KnownAlike : (Interval → Interval → Type 0) → Dimension → Dimension → Type 0
+KnownAlike R Missing Missing = Unit {0}
+KnownAlike R Missing (Known j) = ⊥
+KnownAlike R (Known i) Missing = ⊥
+KnownAlike R (Known i) (Known j) = R i j
+
+-- The same of x's ends, of y, and of z and m where they are known.
+abbrev pub Each : (Interval → Type 0) → BoundingBox → Type 0
+Each P = Every (λ x. P (x .inner)) P (WhereKnown P)
 
 -- All ends are doubles, as they are of every box in the code.
-pub record Doubles (a : BoundingBox) : Type 0 where
-  pub x : interval.Doubles (a .x .inner)
-  pub y : interval.Doubles (a .y)
-  pub z : DoublesWhereKnown (a .z)
-  pub m : DoublesWhereKnown (a .m)
-
-abbrev pub CanonicalWhereKnown : Dimension → Type 0
-CanonicalWhereKnown Missing = Unit {0}
-CanonicalWhereKnown (Known i) = interval.Canonical i
+abbrev pub Doubles : BoundingBox → Type 0
+Doubles = Each interval.Doubles
 
 -- Request 6: no end is −0.
-pub record Canonical (a : BoundingBox) : Type 0 where
-  pub x : interval.Canonical (a .x .inner)
-  pub y : interval.Canonical (a .y)
-  pub z : CanonicalWhereKnown (a .z)
-  pub m : CanonicalWhereKnown (a .m)
-
--- Both are missing, or both known and equal as numbers.
-abbrev pub EqualWhereKnown : Dimension → Dimension → Type 0
-EqualWhereKnown Missing Missing = Unit {0}
-EqualWhereKnown Missing (Known j) = ⊥
-EqualWhereKnown (Known i) Missing = ⊥
-EqualWhereKnown (Known i) (Known j) = interval.EqualNumbers i j
+abbrev pub Canonical : BoundingBox → Type 0
+Canonical = Each interval.Canonical
 
 -- Request 6: "whose known dimensions are equal as numbers". So neither has NaN.
-pub record EqualNumbers (a b : BoundingBox) : Type 0 where
-  pub x : interval.EqualNumbers (a .x .inner) (b .x .inner)
-  pub y : interval.EqualNumbers (a .y) (b .y)
-  pub z : EqualWhereKnown (a .z) (b .z)
-  pub m : EqualWhereKnown (a .m) (b .m)
+abbrev pub EqualNumbers : BoundingBox → BoundingBox → Type 0
+EqualNumbers = Both (λ x y. interval.EqualNumbers (x .inner) (y .inner)) interval.EqualNumbers (KnownAlike interval.EqualNumbers)
 
 -- Request 6: the "bytes" of a box, end by end; none of what is missing.
 abbrev pub intervalBits : Interval → List ℕ
@@ -171,16 +181,14 @@ AcceptsAllOfKnown Missing d = Unit {0}
 AcceptsAllOfKnown (Known j) Missing = ⊥
 AcceptsAllOfKnown (Known j) (Known i) = AcceptsAllOf j i
 
+-- An x accepts every number that another does.
+abbrev pub XAcceptsAllOf : WraparoundInterval → WraparoundInterval → Type 0
+XAcceptsAllOf y x = (v : Float) → wraparound.Accepts x v → wraparound.Accepts y v
+
 -- b accepts every number that a accepts, in x, y, and in z and m where b knows them, which it does only where a does.
-pub record NoLess (b a : BoundingBox) : Type 0 where
-  pub x : (v : Float) → wraparound.Accepts (a .x) v → wraparound.Accepts (b .x) v
-  pub y : AcceptsAllOf (b .y) (a .y)
-  pub z : AcceptsAllOfKnown (b .z) (a .z)
-  pub m : AcceptsAllOfKnown (b .m) (a .m)
+abbrev pub NoLess : BoundingBox → BoundingBox → Type 0
+NoLess = Both XAcceptsAllOf AcceptsAllOf AcceptsAllOfKnown
 
 -- A common number in x, in y, and in z and m where both know them.
-pub record Common (a b : BoundingBox) : Type 0 where
-  pub x : wraparound.Common (a .x) (b .x)
-  pub y : interval.Common (a .y) (b .y)
-  pub z : WhereKnown interval.Common (a .z) (b .z)
-  pub m : WhereKnown interval.Common (a .m) (b .m)
+abbrev pub Common : BoundingBox → BoundingBox → Type 0
+Common = Both wraparound.Common interval.Common (WhereBothKnown interval.Common)

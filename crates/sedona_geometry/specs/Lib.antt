@@ -1,6 +1,9 @@
+pub mod Bits
 pub mod BoundingBox
 pub mod Error
 pub mod Float
 pub mod Interval
+pub mod Lists
 pub mod Types
+pub mod Within
 pub mod WraparoundInterval

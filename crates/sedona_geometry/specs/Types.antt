@@ -1,9 +1,10 @@
 -- The type set of types.rs, method by method.
 use mathlib.Core.Bool.{Bool}
-use Prim.Native.Nat.{ℕ, _/_, _%_, _^_}
+use Prim.Native.Nat.{ℕ}
 use lib.Dec.{eqb}
 use lib.Bits.{bitOr}
 use lib.Count as count
+use Rattle.sedona_geometry.specs.Bits.{hasBit}
 use Rattle.sedona_geometry.specs.declared.types.GeometryTypeAndDimensionsSet.{GeometryTypeAndDimensionsSet}
 
 abbrev pub fromBits : ℕ → GeometryTypeAndDimensionsSet
@@ -30,4 +31,4 @@ clear s = new
 
 -- The set has the type of bit k.
 abbrev pub has : GeometryTypeAndDimensionsSet → ℕ → Bool
-has s k = eqb (s .types / 2 ^ k % 2) 1
+has s k = hasBit (s .types) k

@@ -64,10 +64,6 @@ pub record Common (x y : WraparoundInterval) : Type 0 where
   pub left : Accepts x number
   pub right : Accepts y number
 
--- Both run low to high: what most x do, and by which the code takes a shorter way.
-unfoldable pub bothRise : WraparoundInterval → WraparoundInterval → Bool
-bothRise x y = le (x .inner .lo) (x .inner .hi) && le (y .inner .lo) (y .inner .hi)
-
 -- The interval intersects one of the pieces.
 unfoldable pub piecesIntersect : Pieces → Interval → Bool
 piecesIntersect p i = interval.intersectsInterval i (p .left) || interval.intersectsInterval i (p .right)

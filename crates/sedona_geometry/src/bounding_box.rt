@@ -13,6 +13,17 @@ pub enum Dimension {
 }
 
 impl Dimension {
+    // The interval, where it is known.
+    pub fn known_where(known: bool, i: Interval) -> Dimension
+        ensures { λ r. ⌜ r ≡ boundingBox.knownWhere known i ⌝ }
+    {
+        if known {
+            Dimension::Known(i)
+        } else {
+            Dimension::Missing
+        }
+    }
+
     // The dimension as a call hands it on, with +0 for zero.
     fn plus_zero(self) -> Dimension
         ensures { λ r. ⌜ r ≡ boundingBox.plusZeroWhereKnown self ⌝ }

@@ -5,6 +5,7 @@ ghost use mathlib.Core.Path.{_≡_};
 ghost use mathlib.Core.Bool.{Bool};
 ghost use Rattle.sedona_geometry.specs.Interval as interval;
 ghost use Rattle.sedona_geometry.specs.WraparoundInterval as wraparound;
+ghost use Rattle.sedona_geometry.specs.Within as within;
 use crate::error::TWO_PARTS;
 use crate::error::WRAPPED;
 use crate::float::abs;
@@ -275,7 +276,7 @@ impl WraparoundInterval {
     // asked of the two. Most x are so: no width is taken of them, and no piece made. (The contract also
     // says of the ends that they are doubles, which the laws of the two ask.)
     fn both_rise(self, other: WraparoundInterval) -> bool
-        ensures { λ r. ⌜ (r ≡ wraparound.bothRise self other) × (interval.Doubles (self .inner) × interval.Doubles (other .inner)) ⌝ }
+        ensures { λ r. ⌜ (r ≡ within.bothRise self other) × (interval.Doubles (self .inner) × interval.Doubles (other .inner)) ⌝ }
     {
         let a = self.inner;
         let b = other.inner;

@@ -8,9 +8,10 @@ use native.Mathlib.Omega.{arith}
 use lib.Dec.{eqb, ltb}
 use lib.ListN.{length}
 use borrow.Author.Tests.{eqb-true, ltb-true, ltb-false}
+use Rattle.sedona_geometry.specs.Lists.{All}
 use Rattle.sedona_wkb.specs.Bounds.{answer, wkbBounds}
 use Rattle.sedona_wkb.specs.Error as error
-use Rattle.sedona_wkb.specs.Geometry.{Shape, point, lineString, polygon, Content, Geometry, one, many, collection, Geometries, nil, cons, kindOfShape, coordinatesOf, coordinates, allCoordinates, depth, deepest, howMany, All, Choices, inPart, encodeCoordinate, encodeFrom, encodeCounted, encodeLine, encodeContent, encodeHead, encodeOne, encode, encodeAll, plain, Writing}
+use Rattle.sedona_wkb.specs.Geometry.{Shape, point, lineString, polygon, Content, Geometry, one, many, collection, Geometries, nil, cons, kindOfShape, coordinatesOf, coordinates, allCoordinates, depth, deepest, howMany, Choices, inPart, encodeCoordinate, encodeFrom, encodeCounted, encodeLine, encodeContent, encodeHead, encodeOne, encode, encodeAll, plain, Writing}
 use Rattle.sedona_wkb.specs.Reading.{Reading, Reader, refused, found, andThen, refuse}
 use Rattle.sedona_wkb.specs.Wkb.{Coordinate, isType, isPart, readHead, readPoint, readLine, readOne, readMember, readMany, byKind, readBody, readPart, readCollection, Spelled, ended, readRest, spelled}
 use Rattle.sedona_wkb.specs.declared.heads.Head.{Head}

@@ -11,7 +11,8 @@ use lib.Ieee.Bits.{ofBits-toBits, toBits-lt}
 use lib.ListN.{length, length-append}
 use lib.Seq.{take-at, drop-at}
 use borrow.Author.Tests.{le-ltb}
-use Rattle.sedona_wkb.specs.Geometry.{DoubleWhere, OfDims, All, Choice, Choices, bitsOf, encodeNumber, encodeDouble, encodeWhere, encodeCoordinate, encodeFrom, encodeCounted}
+use Rattle.sedona_geometry.specs.Lists.{All}
+use Rattle.sedona_wkb.specs.Geometry.{DoubleWhere, OfDims, Choice, Choices, bitsOf, encodeNumber, encodeDouble, encodeWhere, encodeCoordinate, encodeFrom, encodeCounted}
 use Rattle.sedona_wkb.specs.Reading.{Reader, found, andThen, number, several}
 use Rattle.sedona_wkb.specs.Wkb.{Coordinate, hasZ, hasM, readDouble, readWhere, readCoordinate, counted, readPoint}
 use Rattle.sedona_wkb.specs.declared.heads.Head.{Head}

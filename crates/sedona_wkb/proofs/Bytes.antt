@@ -10,7 +10,8 @@ use lib.Ieee.Bits.{nanBits-is, nanBits-above}
 use lib.ListN.{length, take, drop, getD, length-drop, length-reverse}
 use lib.Seq.{getD-drop, drop-drop, take-add, length-take-le}
 use borrow.Author.Tests.{lt-ltb}
-use Rattle.sedona_wkb.specs.Geometry.{All}
+use Rattle.sedona_geometry.specs.Lists.{All}
+use Rattle.sedona_wkb.specs.Geometry.{}
 use Rattle.sedona_wkb.specs.Numbers.{valueOf, bytesOf, ordered}
 use Rattle.sedona_wkb.specs.Places.{numberAt}
 

@@ -6,11 +6,12 @@ use mathlib.Core.Logic.{_⊎_, inl, inr}
 use mathlib.Core.Option.{Option, none, some}
 use Prim.Native.Nat.{ℕ}
 use lib.Ieee.{Float, nan, isNan, lt, sub, eq}
+use Rattle.sedona_geometry.specs.Lists.{All}
 use Rattle.sedona_geometry.specs.Float.{minNum, maxNum}
 use Rattle.sedona_geometry.specs.Interval as interval
 use Rattle.sedona_geometry.specs.Interval.{Doubles, Accepts, mergeValue}
 use Rattle.sedona_geometry.specs.WraparoundInterval as wraparound
-use Rattle.sedona_geometry.specs.BoundingBox.{Canonical, plusZeroWhereKnown}
+use Rattle.sedona_geometry.specs.BoundingBox.{Canonical, plusZeroWhereKnown, knownWhere}
 use Rattle.sedona_geometry.specs.declared.bounding_box.BoundingBox.{BoundingBox}
 use Rattle.sedona_geometry.specs.declared.bounding_box.Dimension.{Dimension}
 use Rattle.sedona_geometry.specs.declared.bounding_box.Dimension.the-variants.{Missing, Known}
@@ -21,9 +22,9 @@ use Rattle.sedona_geometry.proofs.Alike.{plus-same, wraps-alike}
 use Rattle.sedona_geometry.proofs.Order.{Number, number-of-test, nan-or-number}
 use Rattle.sedona_geometry.proofs.Wrapping as wrapping
 use Rattle.sedona_geometry.proofs.Wrapping.{accepts-of-plain, infinite-doubles, empty-not-wrapped, low-to-high-plain}
-use Rattle.sedona_wkb.specs.Bounds.{knownWhere, boxOf, answer, boxFrom, AcceptsWhere, AcceptsCoordinate}
+use Rattle.sedona_wkb.specs.Bounds.{boxOf, answer, boxFrom, AcceptsWhere, AcceptsCoordinate}
 use Rattle.sedona_wkb.specs.Extents.{empty, mergeWhere, enter, enterAll}
-use Rattle.sedona_wkb.specs.Geometry.{DoubleWhere, OfDims, All}
+use Rattle.sedona_wkb.specs.Geometry.{DoubleWhere, OfDims}
 use Rattle.sedona_wkb.specs.Reading.{Reading, refused, found}
 use Rattle.sedona_wkb.specs.Wkb.{Coordinate, Spelled, hasZ, hasM, spelled}
 use Rattle.sedona_wkb.specs.declared.coordinates.Extents.{Extents}
@@ -115,7 +116,6 @@ not-wrapped i D (inr a) = low-to-high-plain D (accepts-low-to-high (a .1))
 -- ---- the box of coordinates
 
 known-where : (has : Bool) (i : Interval) (o : Option Float) → DoubleWhere has o → AcceptsWhere (Known i) o → AcceptsWhere (knownWhere has i) o
-unfolding knownWhere
 known-where true i o d h = h
 known-where false i none d h = tt
 known-where false i (some v) d h = absurd d
@@ -168,7 +168,7 @@ box-of-canonical d e = xyzm-canonical (wraparound.fromInterval (e .x)) (e .y) (k
 
 -- ---- the theorems
 
--- "It accepts every coordinate that is not NaN": of bytes that spell something, the box accepts each coordinate that they spell.
+-- "it accepts every coordinate that is not NaN": of bytes that spell something, the box accepts each coordinate that they spell.
 pub accepts-every-coordinate : (s : List ℕ) (p : Spelled) (t : List ℕ) → spelled s ≡ found p t → All (AcceptsCoordinate (boxFrom s)) (p .coordinates)
 unfolding answer
 accepts-every-coordinate s p t e =

@@ -6,7 +6,8 @@ use Prim.Native.Nat.{ℕ, suc, _+_, _*_, _<_}
 use native.Mathlib.Omega.{arith}
 use lib.Ieee.{Float}
 use lib.ListN.{length}
-use Rattle.sedona_wkb.specs.Geometry.{Shape, point, lineString, polygon, Content, Geometry, one, many, collection, Geometries, nil, cons, kindOfShape, howMany, All, Choice, Choices, inPart, bitsOf, encodeNumber, encodeDouble, encodeWhere, encodeCoordinate, encodeFrom, encodeCounted, encodeLine, encodeContent, encodeHead, encodeOne, encode, encodeAll}
+use Rattle.sedona_geometry.specs.Lists.{All}
+use Rattle.sedona_wkb.specs.Geometry.{Shape, point, lineString, polygon, Content, Geometry, one, many, collection, Geometries, nil, cons, kindOfShape, howMany, Choice, Choices, inPart, bitsOf, encodeNumber, encodeDouble, encodeWhere, encodeCoordinate, encodeFrom, encodeCounted, encodeLine, encodeContent, encodeHead, encodeOne, encode, encodeAll}
 use Rattle.sedona_wkb.specs.Wkb.{Coordinate}
 use Rattle.sedona_wkb.proofs.Bytes.{bytes-ordered}
 use Rattle.sedona_wkb.proofs.Only.{all-append}

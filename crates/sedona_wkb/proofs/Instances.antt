@@ -10,13 +10,14 @@ use lib.Ieee.{Float, nan, inf, fin, binary64, fits, isNan, lt, ofBits, toBits, o
 use lib.IntN.{pos}
 use lib.ListN.{take, drop, getD, replicate}
 use borrow.Author.Tests.{ltb-true}
+use Rattle.sedona_geometry.specs.Lists.{All}
 use Rattle.sedona_geometry.specs.Float as float
 use Rattle.sedona_geometry.specs.Interval as interval
 use Rattle.sedona_geometry.specs.Types as types
 use Rattle.sedona_geometry.specs.declared.bounding_box.Dimension.the-variants.{Missing, Known}
 use Rattle.sedona_wkb.specs.Extents.{mergeWhere, enter, enterAll}
-use Rattle.sedona_wkb.specs.Bounds.{knownWhere, boxOf, typesOf, refusal, answer, wkbBounds, boxFrom, AcceptsCoordinate}
-use Rattle.sedona_wkb.specs.Geometry.{point, lineString, polygon, Geometry, one, many, collection, nil, cons, coordinatesOf, coordinates, depth, kindOfShape, kindOf, OfDims, All, Place, NanBits, Choices, encodeNumber, bitsOf, encodeDouble, encodeWhere, encodeCoordinate, encodeFrom, encodeCounted, encodeContent, encodeHead, encodeOne, encode, quiet, plain, Writable, Writing}
+use Rattle.sedona_wkb.specs.Bounds.{boxOf, typesOf, refusal, answer, wkbBounds, boxFrom, AcceptsCoordinate}
+use Rattle.sedona_wkb.specs.Geometry.{point, lineString, polygon, Geometry, one, many, collection, nil, cons, coordinatesOf, coordinates, depth, kindOfShape, kindOf, OfDims, Place, NanBits, Choices, encodeNumber, bitsOf, encodeDouble, encodeWhere, encodeCoordinate, encodeFrom, encodeCounted, encodeContent, encodeHead, encodeOne, encode, quiet, plain, Writable, Writing}
 use Rattle.sedona_wkb.specs.Numbers.{valueOf, bytesOf, ordered}
 use Rattle.sedona_wkb.specs.Reading.{Reading, found, andThen, number, several}
 use Rattle.sedona_wkb.specs.Wkb.{Coordinate, Spelled, isType, isPart, tested, readHead, readPartHead, readDouble, readWhere, readCoordinate, counted, readPoint, readOne, within, byKind, readBody, ended, readRest, spelled}
@@ -134,7 +135,7 @@ pub signed-box : boxFrom signed ≡ record {
   z = Missing;
   m = Missing;
 }
-unfolding answer boxOf knownWhere enterAll enter mergeWhere interval.mergeValue float.minNum float.maxNum isNan lt coordinates coordinatesOf
+unfolding answer boxOf enterAll enter mergeWhere interval.mergeValue float.minNum float.maxNum isNan lt coordinates coordinatesOf
 signed-box = ap (λ (r : Reading Spelled). answer r .numbered .bounds) signed-read
 
 -- POINT ZM (1 7 3 5), low byte first and high byte first: 3001 is 11, 185. Without these bytes code, definition and `encode` could
@@ -178,7 +179,7 @@ pub zm-answer : All (λ s. wkbBounds s ≡ record {
   };
   types = types.fromBits (2 ^ 25);
 }) (lowZm ∷ highZm ∷ [])
-unfolding answer boxOf typesOf knownWhere enterAll enter mergeWhere interval.mergeValue float.minNum float.maxNum isNan lt
+unfolding answer boxOf typesOf enterAll enter mergeWhere interval.mergeValue float.minNum float.maxNum isNan lt
 zm-answer = (ap answer (zm-read .0), (ap answer (zm-read .1 .0), tt))
 
 -- POINT EMPTY, low byte first: x is a NaN with a sign and a payload of 1, y the one that `toBits` writes. The box is empty.
@@ -201,7 +202,7 @@ pub empty-answer : wkbBounds empty ≡ record {
   };
   types = types.fromBits (2 ^ 1);
 }
-unfolding answer boxOf typesOf knownWhere enterAll enter mergeWhere interval.mergeValue float.minNum float.maxNum isNan lt
+unfolding answer boxOf typesOf enterAll enter mergeWhere interval.mergeValue float.minNum float.maxNum isNan lt
 empty-answer = ap answer empty-read
 
 -- So many collections, each of one part, low byte first; and a MultiPoint of one.

@@ -9,8 +9,9 @@ use lib.Ieee.{Float, binary64, fits}
 use lib.Ieee.Bits.{ofBits-fits}
 use lib.ListN.{length}
 use borrow.Author.Tests.{eqb-true, ltb-true, leb-true}
+use Rattle.sedona_geometry.specs.Lists.{All}
 use Rattle.sedona_wkb.specs.Error as error
-use Rattle.sedona_wkb.specs.Geometry.{All, DoubleWhere, OfDims}
+use Rattle.sedona_wkb.specs.Geometry.{DoubleWhere, OfDims}
 use Rattle.sedona_wkb.specs.Reading.{Reading, Reader, refused, found, andThen, refuse, number, several}
 use Rattle.sedona_wkb.specs.Wkb.{Coordinate, headOf, hasZ, hasM, isType, isPart, tested, readHead, readPartHead, readDouble, readWhere, readCoordinate, counted, readPoint, readLine, readPolygon, readOne, within, readMember, readMany, byKind, readBody, Spelled, ended, readRest, spelled}
 use Rattle.sedona_wkb.specs.declared.heads.Head.{Head}

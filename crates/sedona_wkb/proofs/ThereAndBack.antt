@@ -7,8 +7,9 @@ use native.Mathlib.Nat.{le-max-left, le-max-right}
 use native.Mathlib.Omega.{arith}
 use lib.ListN.{length, length-append}
 use borrow.Author.Tests.{eq-eqb, lt-ltb, le-leb}
+use Rattle.sedona_geometry.specs.Lists.{All}
 use Rattle.sedona_wkb.specs.Bounds.{answer, wkbBounds, boxFrom, AcceptsCoordinate}
-use Rattle.sedona_wkb.specs.Geometry.{Shape, point, lineString, polygon, Content, Geometry, one, many, collection, Geometries, nil, cons, kindOfShape, kindOf, coordinatesOf, coordinates, allCoordinates, depth, deepest, howMany, OfDims, All, Choices, inPart, encodeNumber, encodeCoordinate, encodeCounted, encodeLine, encodeContent, encodeHead, encodeOne, encode, encodeAll, plain, Writable}
+use Rattle.sedona_wkb.specs.Geometry.{Shape, point, lineString, polygon, Content, Geometry, one, many, collection, Geometries, nil, cons, kindOfShape, kindOf, coordinatesOf, coordinates, allCoordinates, depth, deepest, howMany, OfDims, Choices, inPart, encodeNumber, encodeCoordinate, encodeCounted, encodeLine, encodeContent, encodeHead, encodeOne, encode, encodeAll, plain, Writable}
 use Rattle.sedona_wkb.specs.Reading.{Reader, found, andThen, number, several}
 use Rattle.sedona_wkb.specs.Wkb.{Coordinate, headOf, isType, isPart, tested, readHead, readPartHead, counted, readPoint, readLine, readOne, within, readMember, readBody, readPart, Spelled, ended, readRest, spelled}
 use Rattle.sedona_wkb.specs.declared.heads.Head.{Head}

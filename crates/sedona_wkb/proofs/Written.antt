@@ -11,8 +11,9 @@ use lib.Ieee.Bits.{toBits-ofBits}
 use lib.ListN.{length, take, drop, take-append-drop}
 use lib.Seq.{length-take-le}
 use borrow.Author.Tests.{ltb-false}
+use Rattle.sedona_geometry.specs.Lists.{All}
 use Rattle.sedona_wkb.specs.Error as error
-use Rattle.sedona_wkb.specs.Geometry.{All, Choice, Choices, plain, bitsOf, encodeNumber, encodeDouble, encodeWhere, encodeCoordinate, encodeFrom, encodeCounted, encodeHead, inPart}
+use Rattle.sedona_wkb.specs.Geometry.{Choice, Choices, plain, bitsOf, encodeNumber, encodeDouble, encodeWhere, encodeCoordinate, encodeFrom, encodeCounted, encodeHead, inPart}
 use Rattle.sedona_wkb.specs.Numbers.{valueOf, bytesOf, ordered}
 use Rattle.sedona_wkb.specs.Reading.{Reading, Reader, refused, found, andThen, _>>=_, give, refuse, number, several}
 use Rattle.sedona_wkb.specs.Wkb.{Coordinate, headOf, hasZ, hasM, isType, isPart, tested, readHead, readPartHead, readDouble, readWhere, readCoordinate, counted, readPoint, within}

@@ -1,6 +1,6 @@
 -- The box and the type of what some bytes spell, and what the theorems on them speak of.
 use mathlib.Core.Path.{_≡_}
-use mathlib.Core.Bool.{Bool, true, false}
+use mathlib.Core.Bool.{false}
 use mathlib.Core.List.{List}
 use mathlib.Core.Option.{Option, none, some}
 use Prim.Native.Nat.{ℕ, _+_, _*_, _^_}
@@ -12,7 +12,6 @@ use Rattle.sedona_geometry.specs.WraparoundInterval as wraparound
 use Rattle.sedona_geometry.specs.declared.bounding_box.BoundingBox.{BoundingBox}
 use Rattle.sedona_geometry.specs.declared.bounding_box.Dimension.{Dimension}
 use Rattle.sedona_geometry.specs.declared.bounding_box.Dimension.the-variants.{Missing, Known}
-use Rattle.sedona_geometry.specs.declared.interval.Interval.{Interval}
 use Rattle.sedona_geometry.specs.declared.types.GeometryTypeAndDimensionsSet.{GeometryTypeAndDimensionsSet}
 use Rattle.sedona_wkb.specs.Extents as extents
 use Rattle.sedona_wkb.specs.Reading.{Reading, refused, found}
@@ -20,20 +19,15 @@ use Rattle.sedona_wkb.specs.Wkb.{Coordinate, Spelled, hasZ, hasM, spelle
 use Rattle.sedona_wkb.specs.declared.bounds.WkbBounds.{WkbBounds}
 use Rattle.sedona_wkb.specs.declared.coordinates.Extents.{Extents}
 
--- "A dimension that the type lacks is missing".
-unfoldable pub knownWhere : Bool → Interval → Dimension
-knownWhere true i = Known i
-knownWhere false i = Missing
-
 -- The extents as a box, "x never wrapping".
 unfoldable pub boxOf : ℕ → Extents → BoundingBox
-boxOf d e = boundingBox.xyzm (wraparound.fromInterval (e .x)) (e .y) (knownWhere (hasZ d) (e .z)) (knownWhere (hasM d) (e .m))
+boxOf d e = boundingBox.xyzm (wraparound.fromInterval (e .x)) (e .y) (boundingBox.knownWhere (hasZ d) (e .z)) (boundingBox.knownWhere (hasM d) (e .m))
 
--- "A type set of one bit": the kind, "plus 8 for Z, 16 for M, 24 for both".
+-- "a type set of one bit": the kind, and 8 more for Z, 16 for M, 24 for both.
 unfoldable pub typesOf : ℕ → ℕ → GeometryTypeAndDimensionsSet
 typesOf kind d = types.fromBits (2 ^ (kind + 8 * d))
 
--- "Beside a number an empty box and the set 0".
+-- "a box beside it is `empty`", and "type set 0".
 abbrev pub refusal : ℕ → WkbBounds
 refusal n = record { numbered = boundingBox.refused n; types = types.new }
 

@@ -8,6 +8,7 @@ use native.Mathlib.Omega.{arith}
 use lib.Dec.{T}
 use lib.Ieee.{Float, nan, binary64, isNan, ofBits, toBits, fits}
 use lib.ListN.{length}
+use Rattle.sedona_geometry.specs.Lists.{All}
 use Rattle.sedona_wkb.specs.Numbers.{bytesOf, ordered}
 use Rattle.sedona_wkb.specs.Wkb.{Coordinate, hasZ, hasM}
 
@@ -92,10 +93,6 @@ pub record OfDims (d : ℕ) (c : Coordinate) : Type 0 where
   pub y : T (fits binary64 (c .y))
   pub z : DoubleWhere (hasZ d) (c .z)
   pub m : DoubleWhere (hasM d) (c .m)
-
-abbrev pub All : {A : Type 0} → (A → Type 0) → List A → Type 0
-All P [] = Unit {0}
-All P (x ∷ xs) = P x × All P xs
 
 -- ---- the bytes
 

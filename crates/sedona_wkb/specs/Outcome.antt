@@ -1,4 +1,5 @@
--- What an answer of the code says: what was found, with the bytes behind its end, or the refusal.
+-- What contracts of private functions alone cite. Who reads the calls and the theorems need not read it: none of them rests on it.
+-- Here: what an answer of the code says: what was found, with the bytes behind its end, or the refusal.
 use mathlib.Core.List.{List}
 use Prim.Native.Nat.{ℕ}
 use lib.ListN.{drop}

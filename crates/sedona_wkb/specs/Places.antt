@@ -1,4 +1,5 @@
--- What stands at a place of a list of bytes, as the code asks for it. (What bytes spell is Wkb's to say.)
+-- What contracts of private functions alone cite. Who reads the calls and the theorems need not read it: none of them rests on it.
+-- Here: what stands at a place of a list of bytes, as the code asks for it. (What bytes spell is Wkb's to say.)
 use mathlib.Core.Bool.{Bool, true, false, cond}
 use mathlib.Core.List.{List, [], _∷_}
 use mathlib.Core.Option.{Option, none, some}

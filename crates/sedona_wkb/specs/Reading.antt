@@ -14,7 +14,7 @@ pub data Reading (A : Type 0) : Type 0 where
 abbrev pub Reader : Type 0 → Type 0
 Reader A = List ℕ → Reading A
 
--- "The first fault from the front counts": what is refused is refused, whatever would follow.
+-- "the first fault from the front counts": what is refused is refused, whatever would follow.
 unfoldable pub andThen : {A B : Type 0} → Reading A → (A → Reader B) → Reading B
 andThen (refused n) next = refused n
 andThen (found a rest) next = next a rest
@@ -29,7 +29,7 @@ give a s = found a s
 abbrev pub refuse : {A : Type 0} → ℕ → Reader A
 refuse n s = refused n
 
--- A number of n bytes in a byte order: "each read either has its bytes or is 15".
+-- A number of n bytes in a byte order; 15 where fewer are left.
 unfoldable pub number : Bool → ℕ → Reader ℕ
 number low n s = cond (ltb (length s) n) (refused error.wkbLength) (found (valueOf (ordered low (take n s))) (drop n s))
 

@@ -30,7 +30,7 @@ isType h = ltb 0 (h .kind) && (leb (h .kind) 7 && ltb (h .dims) 4)
 unfoldable pub isPart : Head → Head → Bool
 isPart parent h = eqb (h .dims) (parent .dims) && (eqb (parent .kind) 7 || eqb (h .kind + 3) (parent .kind))
 
--- A head that passes a test; else "a wrong type code".
+-- A head that passes a test; else a "wrong type code".
 unfoldable pub tested : Bool → Head → Reader Head
 tested passes h = cond passes (give h) (refuse error.wkbCode)
 

@@ -55,24 +55,13 @@ fn empty() -> Extents
     }
 }
 
-// A z or an m, where the type has it.
-fn known_where(has: bool, i: Interval) -> Dimension
-    ensures { λ r. ⌜ r ≡ bounds.knownWhere has i ⌝ }
-{
-    if has {
-        Dimension::Known(i)
-    } else {
-        Dimension::Missing
-    }
-}
-
 // The extents as a box.
 fn box_of(dims: u32, e: Extents) -> BoundingBox
     ensures { λ r. ⌜ r ≡ bounds.boxOf dims e ⌝ }
 {
     let x = WraparoundInterval::from_interval(e.x);
-    let z = known_where(has_z(dims), e.z);
-    let m = known_where(has_m(dims), e.m);
+    let z = Dimension::known_where(has_z(dims), e.z);
+    let m = Dimension::known_where(has_m(dims), e.m);
     BoundingBox::xyzm(x, e.y, z, m)
 }
 

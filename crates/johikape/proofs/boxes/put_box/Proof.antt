@@ -2,16 +2,16 @@
 use mathlib.Core.Path.{refl}
 use borrow.Author.Tests.{eq-eqb, ne-eqb}
 use borrow.Author.Needs.{needs}
-use Rattle.johikape.specs.Boxes.{leaves}
+use Rattle.johikape.specs.Boxes.{unlessRefused}
 use Rattle.johikape.proofs.boxes.put_box.Statement.{statement}
 use Rattle.johikape.proofs.boxes.put_box.Tie as tie
 
 returns : tie.Need-returns
-unfolding leaves
+unfolding unlessRefused
 returns c = rw (ne-eqb (c .before .before .args .a .number) 0 (c .if1 .taken)) (refl, (refl, refl))
 
 returns-2 : tie.Need-returns-2
-unfolding leaves
+unfolding unlessRefused
 returns-2 c =
     rw (
       eq-eqb (c .before .before .before .before .before .before .before .before .before .before .before .before .args .a .number) 0 (c .before .before .before .before .before .before .before .before .before .before .if1 .left),

@@ -4,7 +4,7 @@ use mathlib.Core.Bool.{_&&_}
 use Prim.Native.Nat.{_-_, _≤_}
 use native.Mathlib.Omega.{arith}
 use lib.ListN.{length, drop}
-use Rattle.sedona_expr.specs.Refusals.{all}
+use Rattle.sedona_geometry.specs.Lists.{areAll}
 use Rattle.sedona_expr.proofs.Searches.{all-more, all-done}
 use Rattle.johikape.specs.Records.{goodFlags}
 use borrow.Author.Needs.{needs}
@@ -12,7 +12,7 @@ use Rattle.johikape.proofs.records.are_all_good.Statement.{statement}
 use Rattle.johikape.proofs.records.are_all_good.Tie as tie
 
 abbrev Inv-loop : tie.InvT-loop
-Inv-loop flags good₀ i₀ good i = (i ≤ length flags) × (all goodFlags flags ≡ (good && all goodFlags (drop i flags)))
+Inv-loop flags good₀ i₀ good i = (i ≤ length flags) × (areAll goodFlags flags ≡ (good && areAll goodFlags (drop i flags)))
 
 abbrev μ-loop : tie.MeasureT-loop
 μ-loop flags good₀ i₀ good i = length flags - i

@@ -6,7 +6,7 @@ use Rattle.johikape.proofs.records.flags_of.Tie as tie
 
 returns : tie.Need-returns
 unfolding flags
-returns c = rw (c .before .before .before .before .bbox-flag .ensures .0, c .before .before .before .types-flag .ensures .0, c .before .before .totals-flags .ensures .0, c .before .extent-flag .ensures .0, c .extent-flag2 .ensures .0)
+returns c = rw (c .before .bbox-flag .ensures .0, c .parts-of .ensures .0)
 
 pub flags-of-spec : {M : Type 1} → statement M
-flags-of-spec = tie.close (tie.spec (λ c κs. tt) (λ c κs. tt) (λ c. search needs) (λ c κs. tt) (λ c. search needs) (λ c κs. tt) (λ c. search needs) (λ c κs. tt) (λ c. search needs) returns)
+flags-of-spec = tie.close (tie.spec (λ c κs. tt) (λ c κs. tt) (λ c. search needs) (λ c. search needs) returns)

@@ -3,7 +3,8 @@ use mathlib.Core.Path.{refl}
 use Prim.Native.Nat.{_-_}
 use native.Mathlib.Omega.{arith}
 use lib.ListN.{length}
-use Rattle.johikape.specs.Records.{lists, FoldedTo}
+use Rattle.johikape.specs.Records.{lists}
+use Rattle.johikape.specs.Within.{FoldedTo}
 use Rattle.johikape.proofs.Lists.{place-fits, folded-next, folded-all}
 use borrow.Author.Needs.{needs}
 use Rattle.johikape.proofs.records.fold_lists.Statement.{statement}

@@ -3,7 +3,8 @@ use Prim.Native.Nat.{_-_}
 use Rattle.sedona_expr.specs.Statistics.{start}
 use native.Mathlib.Omega.{arith}
 use lib.ListN.{length}
-use Rattle.johikape.specs.Records.{lists, FoldedTo}
+use Rattle.johikape.specs.Records.{lists}
+use Rattle.johikape.specs.Within.{FoldedTo}
 use Rattle.johikape.proofs.Lists.{place-fits, folded-none, folded-next}
 use Rattle.johikape.proofs.records.fold_whole.Statement.{statement}
 use Rattle.johikape.proofs.records.fold_whole.Tie as tie

@@ -2,13 +2,13 @@
 use mathlib.Core.Path.{refl}
 use borrow.Author.Needs.{needs}
 use borrow.Author.Tests.{not-true, not-false}
-use Rattle.johikape.specs.Boxes.{leaves}
+use Rattle.johikape.specs.Boxes.{unlessRefused}
 use Rattle.johikape.specs.Tariff.{feeOfRecord}
 use Rattle.johikape.proofs.tariff.johikape_fee_of_record.Statement.{statement}
 use Rattle.johikape.proofs.tariff.johikape_fee_of_record.Tie as tie
 
 returns : tie.Need-returns
-unfolding leaves feeOfRecord
+unfolding unlessRefused feeOfRecord
 returns c = rw (← c .before .are-good .ensures, not-true (c .before .are-good .result) (c .if1 .taken)) (refl, refl)
 
 returns-2 : tie.Need-returns-2

@@ -6,7 +6,7 @@ use lib.IntN.{ℤ}
 use lib.ListN.{length}
 use borrow.Author.Tests.{eq-eqb, ne-eqb}
 use Rattle.scan_tariff.proofs.Sizes.{fee-long, fee-walked}
-use Rattle.johikape.specs.Boxes.{leaves}
+use Rattle.johikape.specs.Boxes.{unlessRefused}
 use Rattle.johikape.specs.Tariff.{rates, sizes, feeOfSizes}
 use Rattle.johikape.proofs.Sizes.{sizes-pass, sizes-length}
 use Rattle.johikape.proofs.tariff.johikape_fee_of_sizes.Statement.{statement}
@@ -24,11 +24,11 @@ module _ (c : tie.Else1) where
   fit = sizes-pass zs ks (c .before .sizes-refusal .result) (c .before .sizes-refusal .ensures) (c .if1 .left)
 
 returns : tie.Need-returns
-unfolding leaves feeOfSizes
+unfolding unlessRefused feeOfSizes
 returns c = rw (← c .before .sizes-refusal .ensures, ne-eqb (c .before .sizes-refusal .result) 0 (c .if1 .taken)) (refl, rw (ne-eqb (c .before .sizes-refusal .result) 0 (c .if1 .taken)))
 
 returns-2 : tie.Need-returns-2
-unfolding leaves feeOfSizes
+unfolding unlessRefused feeOfSizes
 returns-2 c =
     let a = c .before .before .before .before .args in
     rw (

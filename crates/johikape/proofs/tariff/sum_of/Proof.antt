@@ -4,7 +4,7 @@ use Prim.Native.Nat.{_-_, _≤_}
 use native.Mathlib.Omega.{arith}
 use borrow.Author.Needs.{needs}
 use lib.ListN.{length, drop}
-use Rattle.scan_tariff.specs.Tariff.{noBytes, withSizes}
+use Rattle.scan_tariff.specs.Within.{noBytes, withSizes}
 use Rattle.johikape.specs.Tariff as tariff
 use Rattle.johikape.proofs.Sizes.{sizes-next, sizes-done}
 use Rattle.johikape.proofs.tariff.sum_of.Statement.{statement}

@@ -7,7 +7,7 @@ use Rattle.sedona_expr.proofs.statistics.Total as T
 use Rattle.sedona_expr.proofs.statistics.Total.Laws as T′
 use Rattle.scan_tariff.specs.Error as error
 use Rattle.scan_tariff.specs.Tariff as tariff
-use Rattle.scan_tariff.specs.Tariff.{noBytes, withSizes}
+use Rattle.scan_tariff.specs.Within.{noBytes, withSizes}
 use Rattle.scan_tariff.proofs.Limited.{meets}
 use Rattle.scan_tariff.proofs.Sizes.{fee-long, fee-walked}
 use Rattle.scan_tariff.proofs.tariff.Rates as P

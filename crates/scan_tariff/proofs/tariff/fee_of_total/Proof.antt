@@ -11,7 +11,8 @@ use mir.Val.{SFits}
 use mir.Facts.{toZ-ofZ}
 use Rattle.sedona_expr.specs.declared.statistics.Total as Total
 use Rattle.sedona_expr.specs.declared.statistics.Total.{Total}
-use Rattle.scan_tariff.specs.Tariff.{mostBytes, nearestCent, billed}
+use Rattle.scan_tariff.specs.Tariff.{mostBytes, nearestCent}
+use Rattle.scan_tariff.specs.Within.{billed}
 use Rattle.scan_tariff.specs.declared.tariff.Rates.{Rates}
 use Rattle.scan_tariff.proofs.Sizes.{counts, count-bytes, fee-missing, fee-rates, fee-given}
 use Rattle.scan_tariff.proofs.tariff.fee_of_total.Statement.{statement}

@@ -15,7 +15,7 @@ use Rattle.sedona_expr.specs.declared.statistics.Total.{Total}
 use Rattle.sedona_expr.proofs.Folding.{meets}
 use Rattle.sedona_expr.proofs.statistics.Total as T
 use Rattle.sedona_expr.proofs.statistics.Total.Laws as T′
-use Rattle.scan_tariff.specs.Tariff.{noBytes, withSize, withSizes}
+use Rattle.scan_tariff.specs.Within.{noBytes, withSize, withSizes}
 use Rattle.scan_tariff.proofs.tariff.no_bytes as start
 use Rattle.scan_tariff.proofs.tariff.no_bytes.Symbol as start-def
 use Rattle.scan_tariff.proofs.tariff.no_bytes.Symbol.{name as #start}

@@ -7,7 +7,7 @@ use mir.Val.{SFits}
 use mir.Facts.{toZ-ofZ}
 use Rattle.sedona_expr.specs.declared.statistics.Total as Total
 use Rattle.sedona_expr.specs.declared.statistics.Total.{Total}
-use Rattle.scan_tariff.specs.Tariff.{billed}
+use Rattle.scan_tariff.specs.Within.{billed}
 use Rattle.scan_tariff.proofs.Sizes.{counts, missing-left, missing-right, both-known, sum-fits}
 use Rattle.scan_tariff.proofs.tariff.with_size.Statement.{statement}
 use Rattle.scan_tariff.proofs.tariff.with_size.Tie as tie

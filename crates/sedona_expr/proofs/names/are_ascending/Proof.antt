@@ -5,7 +5,7 @@ use Prim.Native.Nat.{_+_, _-_, _≤_}
 use native.Mathlib.Omega.{arith}
 use lib.Dec.{ltb}
 use lib.ListN.{length, getD, drop}
-use Rattle.sedona_expr.specs.Names.{ascends}
+use Rattle.sedona_expr.specs.Within.{ascends}
 use Rattle.sedona_expr.proofs.Searches.{test-next, test-end}
 use Rattle.sedona_expr.proofs.Twice.{ascends-next, ascends-end}
 use borrow.Author.Needs.{needs}

@@ -3,7 +3,8 @@ use mathlib.Core.Path.{_≡_, sym, _∙_}
 use Prim.Native.Nat.{_-_, _≤_}
 use native.Mathlib.Omega.{arith}
 use lib.ListN.{length, drop}
-use Rattle.sedona_expr.specs.Names.{findName, behind}
+use Rattle.sedona_expr.specs.Within.{behind}
+use Rattle.sedona_expr.specs.Names.{findName}
 use Rattle.sedona_expr.proofs.Searches.{find-hit, find-next, find-end}
 use borrow.Author.Needs.{needs}
 use Rattle.sedona_expr.proofs.names.find_name.Statement.{statement}

@@ -3,7 +3,8 @@ use mathlib.Core.Path.{_≡_, sym, _∙_}
 use Prim.Native.Nat.{ℕ, _-_, _/_, _%_, _≤_}
 use native.Mathlib.Omega.{arith}
 use lib.ListN.{length, getD, length-set, length-replicate}
-use Rattle.sedona_expr.specs.Names.{markOf, withBit}
+use Rattle.sedona_geometry.specs.Bits.{withBit}
+use Rattle.sedona_expr.specs.Within.{markOf}
 use Rattle.sedona_expr.proofs.Twice.{Differ, Marked, differ-next, differ-all, hit-before, none-before, clear-is-new, mark-next}
 use borrow.Author.Needs.{needs}
 use Rattle.sedona_expr.proofs.names.has_twice_by_marks.Statement.{statement}

@@ -4,15 +4,15 @@ use mathlib.Core.Bool.{_&&_}
 use Prim.Native.Nat.{_-_}
 use native.Mathlib.Omega.{arith}
 use lib.ListN.{length, drop}
-use Rattle.sedona_expr.specs.Names.{isOther}
-use Rattle.sedona_expr.specs.Refusals.{all}
+use Rattle.sedona_geometry.specs.Lists.{areAll}
+use Rattle.sedona_expr.specs.Within.{isOther}
 use Rattle.sedona_expr.proofs.Searches.{all-more, all-done}
 use borrow.Author.Needs.{needs}
 use Rattle.sedona_expr.proofs.names.is_none_of.Statement.{statement}
 use Rattle.sedona_expr.proofs.names.is_none_of.Tie as tie
 
 abbrev Inv-loop : tie.InvT-loop
-Inv-loop names name none₀ i₀ none i = all (isOther name) names ≡ (none && all (isOther name) (drop i names))
+Inv-loop names name none₀ i₀ none i = areAll (isOther name) names ≡ (none && areAll (isOther name) (drop i names))
 
 abbrev μ-loop : tie.MeasureT-loop
 μ-loop names name none₀ i₀ none i = length names - i

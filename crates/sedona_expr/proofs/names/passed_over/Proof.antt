@@ -4,7 +4,8 @@ use Prim.Native.Nat.{_+_, _-_, _≤_}
 use native.Mathlib.Omega.{arith}
 use lib.ListN.{length, drop}
 use borrow.Author.Tests.{not-false}
-use Rattle.sedona_expr.specs.Names.{findName, behind}
+use Rattle.sedona_expr.specs.Within.{behind}
+use Rattle.sedona_expr.specs.Names.{findName}
 use Rattle.sedona_expr.proofs.Searches.{find-all, find-past}
 use Rattle.sedona_expr.proofs.names.passed_over.Statement.{statement}
 use Rattle.sedona_expr.proofs.names.passed_over.Tie as tie

@@ -4,14 +4,15 @@ use mathlib.Core.Bool.{_&&_}
 use Prim.Native.Nat.{_-_, _≤_}
 use native.Mathlib.Omega.{arith}
 use lib.ListN.{length, drop}
-use Rattle.sedona_expr.specs.Refusals.{goodFlag, all}
+use Rattle.sedona_geometry.specs.Lists.{areAll}
+use Rattle.sedona_expr.specs.Refusals.{goodFlag}
 use Rattle.sedona_expr.proofs.Searches.{all-more, all-done}
 use borrow.Author.Needs.{needs}
 use Rattle.sedona_expr.proofs.refusals.are_good_flags.Statement.{statement}
 use Rattle.sedona_expr.proofs.refusals.are_good_flags.Tie as tie
 
 abbrev Inv-loop : tie.InvT-loop
-Inv-loop none flags good₀ i₀ good i = (i ≤ length flags) × (all (goodFlag none) flags ≡ (good && all (goodFlag none) (drop i flags)))
+Inv-loop none flags good₀ i₀ good i = (i ≤ length flags) × (areAll (goodFlag none) flags ≡ (good && areAll (goodFlag none) (drop i flags)))
 
 abbrev μ-loop : tie.MeasureT-loop
 μ-loop none flags good₀ i₀ good i = length flags - i

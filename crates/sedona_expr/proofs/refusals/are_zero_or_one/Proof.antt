@@ -5,7 +5,7 @@ use Prim.Native.Nat.{ℕ, _-_, _≤_}
 use native.Mathlib.Omega.{arith}
 use lib.Dec.{ltb}
 use lib.ListN.{length, drop}
-use Rattle.sedona_expr.specs.Refusals.{all}
+use Rattle.sedona_geometry.specs.Lists.{areAll}
 use Rattle.sedona_expr.proofs.Searches.{all-more, all-done}
 use borrow.Author.Needs.{needs}
 use Rattle.sedona_expr.proofs.refusals.are_zero_or_one.Statement.{statement}
@@ -15,7 +15,7 @@ abbrev good-byte : ℕ → Bool
 good-byte b = ltb b 2
 
 abbrev Inv-loop : tie.InvT-loop
-Inv-loop bytes good₀ i₀ good i = (i ≤ length bytes) × (all good-byte bytes ≡ (good && all good-byte (drop i bytes)))
+Inv-loop bytes good₀ i₀ good i = (i ≤ length bytes) × (areAll good-byte bytes ≡ (good && areAll good-byte (drop i bytes)))
 
 abbrev μ-loop : tie.MeasureT-loop
 μ-loop bytes good₀ i₀ good i = length bytes - i

@@ -6,27 +6,19 @@ use Rattle.sedona_expr.proofs.refusals.records_refusal.Tie as tie
 
 returns : tie.Need-returns
 unfolding recordsRefusal
-returns c = or-else-stop _ (c .before .boxes-refusal .ensures) (c .if1 .taken)
+returns c = or-else-stop _ (c .before .lengths-refusal .ensures) (c .if1 .taken)
 
 returns-2 : tie.Need-returns-2
 unfolding recordsRefusal
 returns-2 c =
-    or-else-next (c .before .before .before .boxes-refusal .ensures) (c .before .before .if1 .left)
-    (or-else-stop _ (c .before .types-refusal .ensures) (c .if2 .taken))
+    or-else-next (c .before .before .before .lengths-refusal .ensures) (c .before .before .if1 .left)
+    (or-else-stop _ (c .before .values-refusal .ensures) (c .if2 .taken))
 
 returns-3 : tie.Need-returns-3
 unfolding recordsRefusal
 returns-3 c =
-    or-else-next (c .before .before .before .before .before .boxes-refusal .ensures) (c .before .before .before .before .if1 .left)
-    (or-else-next (c .before .before .before .types-refusal .ensures) (c .before .before .if2 .left)
-    (or-else-stop _ (c .before .names-refusal .ensures) (c .if3 .taken)))
-
-returns-4 : tie.Need-returns-4
-unfolding recordsRefusal
-returns-4 c =
-    or-else-next (c .before .before .before .before .before .before .boxes-refusal .ensures) (c .before .before .before .before .before .if1 .left)
-    (or-else-next (c .before .before .before .before .types-refusal .ensures) (c .before .before .before .if2 .left)
-    (or-else-next (c .before .before .names-refusal .ensures) (c .before .if3 .left) (c .twice-refusal .ensures)))
+    or-else-next (c .before .before .before .before .lengths-refusal .ensures) (c .before .before .before .if1 .left)
+    (or-else-next (c .before .before .values-refusal .ensures) (c .before .if2 .left) (c .twice-refusal .ensures))
 
 pub records-refusal-spec : {M : Type 1} → statement M
-records-refusal-spec = tie.close (tie.spec (λ c κs. tt) returns (λ c κs. tt) returns-2 (λ c κs. tt) returns-3 (λ c κs. tt) returns-4)
+records-refusal-spec = tie.close (tie.spec (λ c κs. tt) returns (λ c κs. tt) returns-2 (λ c κs. tt) returns-3)

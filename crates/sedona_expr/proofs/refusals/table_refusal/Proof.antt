@@ -10,7 +10,7 @@ returns c = or-else-stop _ (c .before .words-refusal .ensures) (c .if1 .taken)
 
 returns-2 : tie.Need-returns-2
 unfolding tableRefusal
-returns-2 c = or-else-next (c .before .before .words-refusal .ensures) (c .before .if1 .left) (c .boxes-refusal .ensures)
+returns-2 c = or-else-next (c .before .before .words-refusal .ensures) (c .before .if1 .left) (c .literals-refusal .ensures)
 
 pub table-refusal-spec : {M : Type 1} → statement M
 table-refusal-spec = tie.close (tie.spec (λ c κs. tt) returns (λ c κs. tt) returns-2)

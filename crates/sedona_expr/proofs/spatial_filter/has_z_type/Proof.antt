@@ -1,6 +1,6 @@
 -- `spatial_filter::has_z_type` meets its contract. Assumes nothing.
 use mathlib.Core.Path.{sym}
-use Rattle.sedona_expr.proofs.Masks.{z-mask}
+use Rattle.sedona_expr.proofs.WordBits.{z-mask}
 use Rattle.sedona_expr.proofs.spatial_filter.has_z_type.Statement.{statement}
 use Rattle.sedona_expr.proofs.spatial_filter.has_z_type.Tie as tie
 

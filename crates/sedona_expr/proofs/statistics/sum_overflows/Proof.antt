@@ -4,7 +4,7 @@ use borrow.Author.Needs.{needs}
 use mir.Syntax.{w64}
 use mir.Val.{SFits}
 use mir.Facts.{toZ-ofZ}
-use Rattle.sedona_geometry.proofs.Order.{holds, fails}
+use Rattle.sedona_geometry.proofs.Booleans.{holds, fails}
 use Rattle.sedona_expr.proofs.Whole.{least-minus-fits, below-is, most-minus-fits, above-is}
 use Rattle.sedona_expr.proofs.statistics.sum_overflows.Statement.{statement}
 use Rattle.sedona_expr.proofs.statistics.sum_overflows.Tie as tie

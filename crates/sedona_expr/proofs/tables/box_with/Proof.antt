@@ -12,10 +12,10 @@ returns c =
     let interval-at3 = c .before .before .before .before .before .interval-at3 in
     let interval-at4 = c .before .before .before .before .interval-at4 in
     let from-interval = c .before .before .before .from-interval in
-    let dimension = c .before .before .dimension in
-    let dimension2 = c .before .dimension2 in
+    let known-where = c .before .before .known-where in
+    let known-where2 = c .before .known-where2 in
     let xyzm = c .xyzm in
-    rw (xyzm .ensures, dimension2 .ensures, dimension .ensures, from-interval .ensures, interval-at4 .ensures, interval-at3 .ensures, interval-at2 .ensures, interval-at .ensures)
+    rw (xyzm .ensures, known-where2 .ensures, known-where .ensures, from-interval .ensures, interval-at4 .ensures, interval-at3 .ensures, interval-at2 .ensures, interval-at .ensures)
 
 pub box-with-spec : {M : Type 1} → statement M
 box-with-spec = tie.close (tie.spec (λ c κs. search needs) (λ c κs. search needs) (λ c κs. search needs) (λ c κs. search needs) (λ c κs. search needs) (λ c κs. search needs) (λ c κs. search needs) (λ c κs. search needs) returns)

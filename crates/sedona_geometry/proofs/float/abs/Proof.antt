@@ -1,6 +1,6 @@
 -- `float::abs` meets its contract, by the sign of its argument. Assumes nothing.
 use lib.Ieee.{binary64, ofBits}
-use Rattle.sedona_geometry.proofs.Order.{holds, fails}
+use Rattle.sedona_geometry.proofs.Booleans.{holds, fails}
 use Rattle.sedona_geometry.proofs.Sign.{abs-negative, abs-zero, abs-positive}
 use Rattle.sedona_geometry.proofs.float.abs.Statement.{statement}
 use Rattle.sedona_geometry.proofs.float.abs.Tie as tie

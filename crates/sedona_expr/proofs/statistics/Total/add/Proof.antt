@@ -4,7 +4,7 @@ use mir.Syntax.{w64}
 use mir.Val.{SFits}
 use mir.Facts.{toZ-ofZ}
 use lib.IntN.{_+ℤ_}
-use Rattle.sedona_expr.specs.Statistics.{addTotals, sumLeaves}
+use Rattle.sedona_expr.specs.Statistics.{addTotals, sumIsOutside}
 use Rattle.sedona_expr.proofs.Whole.{stays-fits}
 use Rattle.sedona_expr.proofs.statistics.Total.add.Statement.{statement}
 use Rattle.sedona_expr.proofs.statistics.Total.add.Tie as tie
@@ -18,7 +18,7 @@ unfolding addTotals
 returns-2 c = rw (c .before .before .before .self .given .1, c .enum-told2 .given .1)
 
 add-sum : tie.Need-add-t5
-unfolding sumLeaves
+unfolding sumIsOutside
 add-sum c =
     let A : SFits w64 (c .before .before .before .before .self .given .0 .0) = search needs in
     let B : SFits w64 (c .before .other .given .0 .0) = search needs in
@@ -26,7 +26,7 @@ add-sum c =
     rw (toZ-ofZ A, toZ-ofZ B) (stays-fits (c .before .before .before .before .self .given .0 .0 +ℤ c .before .other .given .0 .0) s)
 
 returns-3 : tie.Need-returns-3
-unfolding addTotals sumLeaves
+unfolding addTotals sumIsOutside
 returns-3 c =
     let A : SFits w64 (c .before .before .before .before .self .given .0 .0) = search needs in
     let B : SFits w64 (c .before .other .given .0 .0) = search needs in

@@ -1,6 +1,6 @@
 -- `WraparoundInterval::both_rise` meets its contract. Assumes nothing.
 use mathlib.Core.Path.{refl}
-use Rattle.sedona_geometry.specs.WraparoundInterval.{bothRise}
+use Rattle.sedona_geometry.specs.Within.{bothRise}
 use Rattle.sedona_geometry.proofs.interval.WraparoundInterval.both_rise.Statement.{statement}
 use Rattle.sedona_geometry.proofs.interval.WraparoundInterval.both_rise.Tie as tie
 

@@ -12,8 +12,8 @@ use borrow.Author.Tests.{eqb-true, eqb-false, eq-eqb, ne-eqb}
 use Rattle.sedona_geometry.specs.Types.{fromBits, has}
 use Rattle.sedona_geometry.specs.declared.types.GeometryTypeAndDimensionsSet.{GeometryTypeAndDimensionsSet}
 use Rattle.sedona_geometry.proofs.Bits.{merge-has}
-use Rattle.sedona_geometry.proofs.Order.{holds, is-true, or-right}
-use Rattle.sedona_expr.specs.Names.{hasBit, withBit}
+use Rattle.sedona_geometry.proofs.Booleans.{holds, is-true, or-right}
+use Rattle.sedona_geometry.specs.Bits.{hasBit, withBit}
 use Rattle.sedona_expr.specs.SpatialFilter.{isZ, anyBelow, hasZType}
 
 -- ---- some number below n

@@ -1,8 +1,0 @@
--- `bounds::known_where` meets its contract. Assumes nothing.
-use Rattle.sedona_wkb.specs.Bounds.{knownWhere}
-use Rattle.sedona_wkb.proofs.bounds.known_where.Statement.{statement}
-use Rattle.sedona_wkb.proofs.bounds.known_where.Tie as tie
-
-pub known-where-spec : {M : Type 1} → statement M
-unfolding knownWhere
-known-where-spec = tie.close (tie.spec (λ c. rw (c .if1 .taken)) (λ c. rw (c .if1 .left)))
