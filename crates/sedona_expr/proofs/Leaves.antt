@@ -14,7 +14,7 @@ use Rattle.sedona_geometry.proofs.Boxes.{plus-known-doubles}
 use Rattle.sedona_geometry.proofs.Booleans.{of-cond}
 use Rattle.sedona_geometry.specs.Lists.{All}
 use Rattle.sedona_expr.specs.SpatialFilter.{Column, Filter, intersects, covers, hasZ, and, or, literalFalse, unknown}
-use Rattle.sedona_expr.specs.Tables.{Boxes, ends, hasBox, intervalAt, boxWith, boxAt, orEmpty, Table, kind, word, leafOf, pairOf, hasChildren, alone, treeOf, treesBelow, treeAt, knowsZ, knowsM}
+use Rattle.sedona_expr.specs.Tables.{Boxes, ends, hasBox, intervalAt, boxWith, boxAt, orEmpty, Table, kind, word, leafOf, pairOf, hasChildren, leafAt, alone, treeOf, treesBelow, treeAt, knowsZ, knowsM}
 use Rattle.sedona_expr.specs.Demand.{Leaf, ofBox, aHasZ, EachLeaf, OfLiteral}
 use Rattle.sedona_expr.proofs.StraightBoxes.{empty-straight}
 
@@ -47,7 +47,7 @@ module _ (t : Table) (P : BoundingBox → Type 0) (every : (i : ℕ) → P (orEm
   Every f = EachLeaf (λ l c. OfLiteral P l) f
 
   leaves-of-node : (n : ℕ) (below : ℕ → Filter) → ((m : ℕ) → Every (below m)) → Every (treeOf t n below)
-  unfolding treeOf alone leafOf pairOf
+  unfolding treeOf alone leafAt leafOf pairOf
   leaves-of-node n below h =
       let k = kind (t .nodes) n in
       let l = h (word (t .nodes) n 1) in

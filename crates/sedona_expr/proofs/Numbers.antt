@@ -14,7 +14,7 @@ use Rattle.sedona_expr.specs.Names.{hasTwice}
 use Rattle.sedona_expr.specs.Error as error
 use Rattle.sedona_expr.specs.SpatialFilter.{answer}
 use Rattle.sedona_expr.specs.Tables.{Records, Table, root, Lookup, byPosition, byName, recordOf, word, kind, count, isPair, isLeaf, areBelow}
-use Rattle.sedona_expr.specs.Refusals.{orElse, refuseIf, goodFlag, wordsRefusal, wrongDoubles, literalsRefusal, wrongNames, lengthsRefusal, valuesRefusal, twiceRefusal, recordsRefusal, isLent, pairRefusal, columnRefusal, leafRefusal, nodeRefusal, nodesRefusal, uses, allBelow, usesRefusal, tableRefusal, treeRefusal, columnsOf, lentTo, refusal, boxRefusal}
+use Rattle.sedona_expr.specs.Refusals.{orElse, refuseIf, goodFlag, wordsRefusal, areInBoxes, literalsRefusal, wrongNames, lengthsRefusal, valuesRefusal, twiceRefusal, recordsRefusal, isLent, pairRefusal, columnRefusal, leafRefusal, nodeRefusal, nodesRefusal, uses, allBelow, usesRefusal, tableRefusal, treeRefusal, columnsOf, lentTo, refusal, boxRefusal}
 use Rattle.sedona_expr.specs.declared.refusals.Count.the-variants.{Any}
 use Rattle.sedona_expr.specs.declared.refusals.Lent.{Lent}
 use Rattle.sedona_expr.specs.Calls.{outcome, evaluate, filterBbox}
@@ -36,7 +36,7 @@ module _ (P : ℕ → Type 0) (none : P 0) (words : P error.words) (unknownKind 
   of-table t =
       let n = length (t .nodes) in
       of-or-else (of-refuse-if (eqb n 0 || not (eqb (n % 4) 0) || ltb 4096 n) words)
-      (of-refuse-if (wrongDoubles (t .literals) || not (areAll (goodFlag false) (t .literals .flags))) badLists)
+      (of-refuse-if (not (areInBoxes (t .literals)) || not (areAll (goodFlag false) (t .literals .flags))) badLists)
 
   of-twice : (l : Lookup) → P (twiceRefusal l)
   unfolding twiceRefusal
@@ -47,7 +47,7 @@ module _ (P : ℕ → Type 0) (none : P 0) (words : P error.words) (unknownKind 
   unfolding recordsRefusal lengthsRefusal valuesRefusal
   of-records l r =
       let n = length (r .boxes .flags) in
-      of-or-else (of-refuse-if (wrongDoubles (r .boxes) || not (eqb (length (r .types)) n) || not (eqb (length (r .known)) n) || wrongNames l n) badLists)
+      of-or-else (of-refuse-if (not (areInBoxes (r .boxes)) || not (eqb (length (r .types)) n) || not (eqb (length (r .known)) n) || wrongNames l n) badLists)
       (of-or-else (of-refuse-if (not (areAll (goodFlag true) (r .boxes .flags)) || not (areAll (λ b. ltb b 2) (r .known))) badLists) (of-twice l))
 
   module _ (ns : List ℕ) (lent : Lent) where

@@ -5,11 +5,11 @@ use mathlib.Core.List.{List}
 use Prim.Native.Nat.{ℕ, zero, suc, _≤_, _<_}
 use native.Mathlib.Omega.{arith}
 use lib.Dec.{eqb, ltb}
-use borrow.Author.Tests.{eqb-true, eqb-false, eq-eqb, ne-eqb, ltb-true, ltb-false}
+use borrow.Author.Tests.{eqb-true, eqb-false, eq-eqb, ne-eqb, lt-ltb, le-ltb, ltb-true}
 use Rattle.sedona_geometry.specs.declared.bounding_box.BoundingBox.{BoundingBox}
-use Rattle.sedona_expr.specs.SpatialFilter.{Column, Filter, intersects, covers, hasZ, and, or, literalFalse, unknown, mayIntersect, mayCover, mayHaveZ, answer, full, boxFor}
-use Rattle.sedona_expr.specs.Tables.{Table, word, kind, columnOf, literal, isPair, leafOf, pairOf, areBelow, hasChildren, alone, treeOf, treesBelow, treeAt}
-use Rattle.sedona_expr.specs.Within.{childrenOf, leafAnswer}
+use Rattle.sedona_expr.specs.SpatialFilter.{Column, Filter, intersects, covers, and, or, literalFalse, unknown, mayIntersect, mayCover, answer, full, boxFor}
+use Rattle.sedona_expr.specs.Tables.{Table, word, kind, isPair, leafOf, pairOf, areBelow, hasChildren, leafAt, alone, treeOf, treesBelow, treeAt}
+use Rattle.sedona_expr.specs.Within.{childrenOf}
 use Rattle.sedona_expr.specs.declared.tables.ColumnRecord.{ColumnRecord}
 use Rattle.sedona_expr.specs.declared.tables.Pair.{Pair}
 use Rattle.sedona_expr.specs.declared.tables.Children as Children
@@ -89,10 +89,18 @@ found-none ns n = go (hasChildren ns n)
     go false e = refl
 
 -- ---- what is said of a node's tree, for anything that is said of trees
+-- a leaf is no pair
+leaf-no-pair : (k : ℕ) → k ≤ 2 → isPair k ≡ false
+leaf-no-pair k h = rw (ne-eqb k 3 (λ e. absurd (omega arith)), ne-eqb k 4 (λ e. absurd (omega arith)))
+
 module _ {B : Type 0} (say : Filter → B) (t : Table) (n : ℕ) where
-  pub says-alone : Children.Neither ≡ childrenOf (t .nodes) n → say (treeAt t n) ≡ say (alone t n)
-  unfolding treeAt treeOf
-  says-alone e = rw (found-none (t .nodes) n e)
+  pub says-leaf : kind (t .nodes) n ≤ 2 → say (treeAt t n) ≡ say (leafAt t n)
+  unfolding treeAt treeOf hasChildren alone
+  says-leaf h = rw (leaf-no-pair (kind (t .nodes) n) h, le-ltb 2 (kind (t .nodes) n) h)
+
+  pub says-other : 2 < kind (t .nodes) n → Children.Neither ≡ childrenOf (t .nodes) n → say (treeAt t n) ≡ say (cond (eqb (kind (t .nodes) n) 5) literalFalse unknown)
+  unfolding treeAt treeOf alone
+  says-other h e = rw (found-none (t .nodes) n e, lt-ltb 2 (kind (t .nodes) n) h)
 
   pair-tree : (p : Pair) → HasChildren (t .nodes) n p
       → treeAt t n ≡ pairOf (kind (t .nodes) n) (and (treeAt t (p .left)) (treeAt t (p .right))) (or (treeAt t (p .left)) (treeAt t (p .right)))
@@ -110,31 +118,13 @@ pub answer-other : (own : Column → ColumnRecord) (b : Bool) → answer own (co
 answer-other own true = refl
 answer-other own false = refl
 
--- a leaf, by its kind
-pub answer-leaf : (t : Table) (own : Column → ColumnRecord) (k n : ℕ)
-    → let c = columnOf (t .nodes) n in
-    leafAnswer k (own c) (literal t n) ≡ answer own (cond (eqb k 2) (hasZ c) (leafOf k (intersects c (literal t n)) (covers c (literal t n))))
-unfolding leafAnswer leafOf
-answer-leaf t own k n = go (eqb k 2) (eqb k 0)
+pub answer-of-leaf : (own : Column → ColumnRecord) (k : ℕ) (c : Column) (l : BoundingBox) → answer own (leafOf k (intersects c l) (covers c l)) ≡ leafOf k (mayIntersect (own c .bbox) l) (mayCover (own c .bbox) l)
+unfolding leafOf
+answer-of-leaf own k c l = go (eqb k 0)
   where
-    go : (a b : Bool)
-        → let c = columnOf (t .nodes) n in
-        cond a (mayHaveZ (own c)) (cond b (mayIntersect (own c .bbox) (literal t n)) (mayCover (own c .bbox) (literal t n)))
-        ≡ answer own (cond a (hasZ c) (cond b (intersects c (literal t n)) (covers c (literal t n))))
-    go true b = refl
-    go false true = refl
-    go false false = refl
-
--- from HasZ on no node but a LiteralFalse has another box than the full one
-pub box-past-leaves : (name k : ℕ) (c : Column) (leaf : Filter) → 2 ≤ k → boxFor name (cond (ltb 2 k) unknown (cond (eqb k 2) (hasZ c) leaf)) ≡ full
-box-past-leaves name k c leaf h = go (ltb 2 k) (eqb k 2) refl refl
-  where
-    go : (a b : Bool) → ltb 2 k ≡ a → eqb k 2 ≡ b → boxFor name (cond a unknown (cond b (hasZ c) leaf)) ≡ full
-    go true b e f = refl
-    go false true e f = refl
-    go false false e f =
-        let d : (k ≡ 2 → ⊥) = eqb-false k 2 f in
-        absurd (d (omega (arith, ltb-false 2 k e)))
+    go : (b : Bool) → answer own (cond b (intersects c l) (covers c l)) ≡ cond b (mayIntersect (own c .bbox) l) (mayCover (own c .bbox) l)
+    go true = refl
+    go false = refl
 
 pub box-of-leaf : (name k : ℕ) (c : Column) (l : BoundingBox) → boxFor name (leafOf k (intersects c l) (covers c l)) ≡ cond (eqb (c .name) name) l full
 unfolding leafOf

@@ -165,7 +165,7 @@ row-point (suc i) = record { x = (refl, refl); y = (refl, refl); z = tt; m = tt 
 -- ---- the hypotheses, for any call that finds the two columns
 module _ (l : Lookup) (wellFormed : refusals.refusal l t r ≡ 0) (first : tables.place l (tables.column 0 7) ≡ 0) (second : tables.place l (tables.column 1 9) ≡ 1) where
   wanted : Wanted l t r row lists
-  unfolding isZ fits sub neg lt le eq isNan round ofInt interval.intersectsValue interval.containsInterval interval.isEmpty wraparound.isWraparound wraparound.split wraparound.intersectsValue wraparound.piecesContain wraparound.containsInterval boundingBox.testKnown boundingBox.contains tables.boxWith tables.boxAt tables.orEmpty tables.leafOf tables.pairOf tables.areBelow tables.hasChildren tables.alone tables.treeOf tables.treeAt
+  unfolding isZ fits sub neg lt le eq isNan round ofInt interval.intersectsValue interval.containsInterval interval.isEmpty wraparound.isWraparound wraparound.split wraparound.intersectsValue wraparound.piecesContain wraparound.containsInterval boundingBox.testKnown boundingBox.contains tables.boxWith tables.boxAt tables.orEmpty tables.leafOf tables.pairOf tables.areBelow tables.hasChildren tables.leafAt tables.alone tables.treeOf tables.treeAt
   wanted = record {
     wellFormed = wellFormed;
     exist = rw (first, second) (((omega arith, tt), omega arith), (omega arith, omega arith));
@@ -185,7 +185,7 @@ module _ (l : Lookup) (wellFormed : refusals.refusal l t r ≡ 0) (first : table
   }
 
   pointed : Numbers l names → Pointed l t r row names
-  unfolding placeOf hasTwice fits neg lt le eq isNan round ofInt tables.boxWith tables.boxAt tables.orEmpty tables.leafOf tables.pairOf tables.areBelow tables.hasChildren tables.alone tables.treeOf tables.treeAt
+  unfolding placeOf hasTwice fits neg lt le eq isNan round ofInt tables.boxWith tables.boxAt tables.orEmpty tables.leafOf tables.pairOf tables.areBelow tables.hasChildren tables.leafAt tables.alone tables.treeOf tables.treeAt
   pointed numbers = record {
     numbers = numbers;
     columns = omega arith;
@@ -247,7 +247,7 @@ wrapped-folds = record {
 }
 
 wrapped-wanted : Wanted byPosition wrapped-table wrapped-fold wrapped-row wrapped-lists
-unfolding sub neg lt le eq isNan round ofInt interval.containsInterval interval.isEmpty wraparound.isWraparound wraparound.split wraparound.piecesContain wraparound.containsInterval boundingBox.testKnown boundingBox.contains tables.boxWith tables.boxAt tables.orEmpty tables.leafOf tables.pairOf tables.areBelow tables.hasChildren tables.alone tables.treeOf tables.treeAt refusals.orElse refusals.wordsRefusal refusals.goodFlag refusals.literalsRefusal refusals.lengthsRefusal refusals.valuesRefusal refusals.wrongNames refusals.twiceRefusal refusals.recordsRefusal refusals.pairRefusal refusals.isLent refusals.columnRefusal refusals.leafRefusal refusals.nodeRefusal refusals.usesBy refusals.usesRefusal refusals.tableRefusal refusals.treeRefusal refusals.refusal tables.place
+unfolding sub neg lt le eq isNan round ofInt interval.containsInterval interval.isEmpty wraparound.isWraparound wraparound.split wraparound.piecesContain wraparound.containsInterval boundingBox.testKnown boundingBox.contains tables.boxWith tables.boxAt tables.orEmpty tables.leafOf tables.pairOf tables.areBelow tables.hasChildren tables.leafAt tables.alone tables.treeOf tables.treeAt refusals.orElse refusals.wordsRefusal refusals.goodFlag refusals.literalsRefusal refusals.lengthsRefusal refusals.valuesRefusal refusals.wrongNames refusals.twiceRefusal refusals.recordsRefusal refusals.pairRefusal refusals.isLent refusals.columnRefusal refusals.leafRefusal refusals.nodeRefusal refusals.usesBy refusals.usesRefusal refusals.tableRefusal refusals.treeRefusal refusals.refusal tables.place
 wrapped-wanted = record { wellFormed = refl; exist = omega arith; holds = refl; folds = wrapped-folds }
 
 pub a-wrapped-literal : MayMatch byPosition wrapped-table wrapped-fold
@@ -286,7 +286,7 @@ signed-folds = record {
 }
 
 signed-wanted : Wanted byPosition signed-table signed-fold signed-row signed-lists
-unfolding sub neg lt le eq isNan round ofInt interval.containsInterval interval.isEmpty wraparound.isWraparound wraparound.split wraparound.piecesContain wraparound.containsInterval boundingBox.testKnown boundingBox.contains tables.boxWith tables.boxAt tables.orEmpty tables.leafOf tables.pairOf tables.areBelow tables.hasChildren tables.alone tables.treeOf tables.treeAt refusals.orElse refusals.wordsRefusal refusals.goodFlag refusals.literalsRefusal refusals.lengthsRefusal refusals.valuesRefusal refusals.wrongNames refusals.twiceRefusal refusals.recordsRefusal refusals.pairRefusal refusals.isLent refusals.columnRefusal refusals.leafRefusal refusals.nodeRefusal refusals.usesBy refusals.usesRefusal refusals.tableRefusal refusals.treeRefusal refusals.refusal tables.place
+unfolding sub neg lt le eq isNan round ofInt interval.containsInterval interval.isEmpty wraparound.isWraparound wraparound.split wraparound.piecesContain wraparound.containsInterval boundingBox.testKnown boundingBox.contains tables.boxWith tables.boxAt tables.orEmpty tables.leafOf tables.pairOf tables.areBelow tables.hasChildren tables.leafAt tables.alone tables.treeOf tables.treeAt refusals.orElse refusals.wordsRefusal refusals.goodFlag refusals.literalsRefusal refusals.lengthsRefusal refusals.valuesRefusal refusals.wrongNames refusals.twiceRefusal refusals.recordsRefusal refusals.pairRefusal refusals.isLent refusals.columnRefusal refusals.leafRefusal refusals.nodeRefusal refusals.usesBy refusals.usesRefusal refusals.tableRefusal refusals.treeRefusal refusals.refusal tables.place
 signed-wanted = record { wellFormed = refl; exist = omega arith; holds = refl; folds = signed-folds }
 
 pub a-row-at-minus-zero : MayMatch byPosition signed-table signed-fold

@@ -9,7 +9,7 @@ use lib.Ieee.{Float, binary64, ofInt}
 use lib.ListN.{length, replicate, length-replicate}
 use Rattle.sedona_geometry.specs.Lists.{areAll}
 use Rattle.sedona_expr.specs.SpatialFilter.{Column, Filter, intersects, covers, hasZ, and, or, literalFalse, unknown, answer}
-use Rattle.sedona_expr.specs.Tables.{Records, records, Table, table, leafOf, pairOf, areBelow, hasChildren, alone, treeOf, treeAt, root, Lookup, byPosition, recordOf}
+use Rattle.sedona_expr.specs.Tables.{Records, records, Table, table, leafOf, pairOf, areBelow, hasChildren, leafAt, alone, treeOf, treeAt, root, Lookup, byPosition, recordOf}
 use Rattle.sedona_expr.specs.Refusals.{lengthsRefusal, valuesRefusal, recordsRefusal, refusal}
 use Rattle.sedona_expr.specs.Calls.{evaluate}
 use Rattle.sedona_expr.specs.WithoutHasZ.{NoHasZ, typesUnknown, TypesPass}
@@ -53,5 +53,5 @@ abbrev t : Table
 t = table (0 ∷ 0 ∷ 0 ∷ 0 ∷ 6 ∷ 0 ∷ 0 ∷ 0 ∷ 4 ∷ 0 ∷ 1 ∷ 0 ∷ []) zeros (1 ∷ [])
 
 pub of-two : _≡_ {A = Evaluation} (evaluate byPosition t (records zeros (1 ∷ []) (0x200 ∷ []) (1 ∷ []))) (evaluate byPosition t (records zeros (1 ∷ []) (0 ∷ []) (0 ∷ [])))
-unfolding leafOf pairOf areBelow hasChildren alone treeOf treeAt
+unfolding leafOf pairOf areBelow hasChildren leafAt alone treeOf treeAt
 of-two = types-unread byPosition t _ _ refl (tt, tt) (record { types = refl; known = refl; bytes = refl }) (record { types = refl; known = refl; bytes = refl })

@@ -31,13 +31,13 @@ wordsRefusal ns = refuseIf (eqb (length ns) 0 || not (eqb (length ns % 4) 0) || 
 unfoldable pub goodFlag : Bool → ℕ → Bool
 goodFlag none f = ltb f flagLimit && (eqb (f % 2) 1 || (none && eqb f 0))
 
--- Not so many doubles as the flags ask for.
-abbrev pub wrongDoubles : Boxes → Bool
-wrongDoubles b = not (eqb (length (b .doubles)) (ends * length (b .flags)))
+-- As many doubles as the flags ask for.
+abbrev pub areInBoxes : Boxes → Bool
+areInBoxes b = eqb (length (b .doubles)) (ends * length (b .flags))
 
 -- 8: not so many doubles, or bad flags.
 unfoldable pub literalsRefusal : Boxes → ℕ
-literalsRefusal b = refuseIf (wrongDoubles b || not (areAll (goodFlag false) (b .flags))) error.badLists
+literalsRefusal b = refuseIf (not (areInBoxes b) || not (areAll (goodFlag false) (b .flags))) error.badLists
 
 -- By name: as many names as records.
 unfoldable pub wrongNames : Lookup → ℕ → Bool
@@ -48,7 +48,7 @@ wrongNames (byName ns) records = not (eqb (length ns) records)
 unfoldable pub lengthsRefusal : Lookup → Records → ℕ
 lengthsRefusal l r =
     let n = length (r .boxes .flags) in
-    refuseIf (wrongDoubles (r .boxes) || not (eqb (length (r .types)) n) || not (eqb (length (r .known)) n) || wrongNames l n) error.badLists
+    refuseIf (not (areInBoxes (r .boxes)) || not (eqb (length (r .types)) n) || not (eqb (length (r .known)) n) || wrongNames l n) error.badLists
 
 -- 8: bad flags, or a known byte that is not "0 or 1".
 unfoldable pub valuesRefusal : List ℕ → List ℕ → ℕ

@@ -138,12 +138,16 @@ areBelow ns n = ltb (word ns n 1) n && ltb (word ns n 2) n
 unfoldable pub hasChildren : List ℕ → ℕ → Bool
 hasChildren ns n = isPair (kind ns n) && areBelow ns n
 
--- The tree of a node without children. (An And or Or with a child that is not below is refused; an Unknown stands for it here.)
-unfoldable pub alone : Table → ℕ → Filter
-alone t n =
+-- An Intersects, a Covers or a HasZ.
+unfoldable pub leafAt : Table → ℕ → Filter
+leafAt t n =
     let k = kind (t .nodes) n in
     let c = columnOf (t .nodes) n in
-    cond (ltb 2 k) (cond (eqb k 5) literalFalse unknown) (cond (eqb k 2) (hasZ c) (leafOf k (intersects c (literal t n)) (covers c (literal t n))))
+    cond (eqb k 2) (hasZ c) (leafOf k (intersects c (literal t n)) (covers c (literal t n)))
+
+-- The tree of a node without children. (An And or Or with a child that is not below is refused; an Unknown stands for it here.)
+unfoldable pub alone : Table → ℕ → Filter
+alone t n = cond (ltb 2 (kind (t .nodes) n)) (cond (eqb (kind (t .nodes) n) 5) literalFalse unknown) (leafAt t n)
 
 -- The tree of a node, given the trees of nodes below it.
 unfoldable pub treeOf : Table → ℕ → (ℕ → Filter) → Filter

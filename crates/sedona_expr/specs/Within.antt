@@ -5,14 +5,11 @@ use mathlib.Core.List.{List, [], _∷_}
 use Prim.Native.Nat.{ℕ, _+_, _*_, _/_, _%_, _^_, _≤_, _<_}
 use lib.Dec.{eqb, ltb}
 use lib.ListN.{length, getD, take}
-use Rattle.sedona_geometry.specs.declared.bounding_box.BoundingBox.{BoundingBox}
 use Rattle.sedona_expr.specs.Names.{findName}
-use Rattle.sedona_expr.specs.SpatialFilter.{mayIntersect, mayCover, mayHaveZ}
 use Rattle.sedona_expr.specs.Statistics.{sumIsOutside, Which, total}
 use Rattle.sedona_expr.specs.Tables.{word, kind, isPair, hasChildren}
 use Rattle.sedona_expr.specs.declared.names.NameSearch.{NameSearch}
 use Rattle.sedona_expr.specs.declared.statistics.GeoStatistics.{GeoStatistics}
-use Rattle.sedona_expr.specs.declared.tables.ColumnRecord.{ColumnRecord}
 use Rattle.sedona_expr.specs.declared.tables.Children.{Children}
 use Rattle.sedona_expr.specs.declared.tables.Children.the-variants.{Neither, Both}
 
@@ -25,10 +22,6 @@ HasNode ns n = 4 * n + 4 ≤ length ns
 -- The children of a node that has them.
 unfoldable pub childrenOf : List ℕ → ℕ → Children
 childrenOf ns n = cond (hasChildren ns n) (Both (record { left = word ns n 1; right = word ns n 2 })) Neither
-
--- What a leaf answers of the record that it finds: a HasZ (kind 2), an Intersects (0), else a Covers.
-unfoldable pub leafAnswer : ℕ → ColumnRecord → BoundingBox → Bool
-leafAnswer kind r k = cond (eqb kind 2) (mayHaveZ r) (cond (eqb kind 0) (mayIntersect (r .bbox) k) (mayCover (r .bbox) k))
 
 -- 1,024 marks, each of so many.
 abbrev pub Counted : List ℕ → (ℕ → ℕ) → Type 0

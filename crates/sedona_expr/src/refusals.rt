@@ -2,7 +2,6 @@
 // `box_refusal`, at the end, have their order. All nodes are checked before any is answered.
 ghost use mathlib.Core.Path.{_≡_};
 ghost use Prim.Native.Nat.{_≤_, _<_, _+_};
-ghost use mathlib.Core.Bool.{not};
 ghost use lib.Dec.{eqb, ltb};
 ghost use lib.ListN.{length, getD};
 ghost use Rattle.sedona_expr.specs.Tables as tables;
@@ -71,7 +70,7 @@ fn are_good_flags(none: bool, flags: &[u8]) -> bool
 
 // Whether there are ENDS doubles a flag.
 fn are_in_boxes(doubles: &[f64], flags: &[u8]) -> bool
-    ensures { λ r. ⌜ r ≡ not (refusals.wrongDoubles (tables.boxes (now (doubles .entry)) (now (flags .entry)))) ⌝ }
+    ensures { λ r. ⌜ r ≡ refusals.areInBoxes (tables.boxes (now (doubles .entry)) (now (flags .entry))) ⌝ }
 {
     if doubles.len() % ENDS != 0 {
         return false;

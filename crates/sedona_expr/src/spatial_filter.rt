@@ -127,27 +127,9 @@ fn both_or_either(kind: u32, a: bool, b: bool) -> bool
     if kind == AND { a && b } else { a || b }
 }
 
-// What a leaf answers, given the record that it finds.
+// What a leaf answers of the record that it finds. (It is looked for where the kinds have parted: then
+// the types are read for a HasZ alone.)
 fn leaf_may_match(
-    nodes: &[u32],
-    literals: &[f64],
-    literal_flags: &[u8],
-    node: u32,
-    seen: ColumnRecord,
-) -> bool
-    requires { ⌜ within.HasNode (now nodes) node ⌝ }
-    ensures { λ r. ⌜ r ≡ within.leafAnswer (tables.kind (now (nodes .entry)) node) seen (tables.literal (tables.table (now (nodes .entry)) (now (literals .entry)) (now («literal_flags» .entry))) node) ⌝ }
-{
-    let kind = word(nodes, node, 0);
-    if kind == HAS_Z {
-        return may_have_z(seen);
-    }
-    let bbox = seen.bbox;
-    box_may_match(kind, bbox, literal_of(nodes, literals, literal_flags, node))
-}
-
-// What a node without children answers.
-fn may_match_alone(
     nodes: &[u32],
     literals: &[f64],
     literal_flags: &[u8],
@@ -160,12 +142,23 @@ fn may_match_alone(
     node: u32,
 ) -> bool
     requires { ⌜ within.HasNode (now nodes) node ⌝ }
-    ensures { λ r. ⌜ r ≡ filter.answer (tables.recordOf (tables.lookup named (now (names .entry))) (tables.records (now (records .entry)) (now («record_flags» .entry)) (now («record_types» .entry)) (now («types_known» .entry)))) (tables.alone (tables.table (now (nodes .entry)) (now (literals .entry)) (now («literal_flags» .entry))) node) ⌝ }
+    ensures { λ r. ⌜ r ≡ filter.answer (tables.recordOf (tables.lookup named (now (names .entry))) (tables.records (now (records .entry)) (now («record_flags» .entry)) (now («record_types» .entry)) (now («types_known» .entry)))) (tables.leafAt (tables.table (now (nodes .entry)) (now (literals .entry)) (now («literal_flags» .entry))) node) ⌝ }
 {
     let kind = word(nodes, node, 0);
-    if kind > HAS_Z {
-        return kind != LITERAL_FALSE;
+    if kind == HAS_Z {
+        let seen = record_of(
+            nodes,
+            records,
+            record_flags,
+            record_types,
+            types_known,
+            named,
+            names,
+            node,
+        );
+        return may_have_z(seen);
     }
+    let k = literal_of(nodes, literals, literal_flags, node);
     let seen = record_of(
         nodes,
         records,
@@ -176,10 +169,11 @@ fn may_match_alone(
         names,
         node,
     );
-    leaf_may_match(nodes, literals, literal_flags, node, seen)
+    let bbox = seen.bbox;
+    box_may_match(kind, bbox, k)
 }
 
-// Whether the tree of a node may match.
+// Whether the tree of a node may match. (Leaves come first: most nodes are leaves.)
 fn may_match(
     nodes: &[u32],
     literals: &[f64],
@@ -195,8 +189,9 @@ fn may_match(
     requires { ⌜ within.HasNode (now nodes) node ⌝ }
     ensures { λ r. ⌜ r ≡ filter.answer (tables.recordOf (tables.lookup named (now (names .entry))) (tables.records (now (records .entry)) (now («record_flags» .entry)) (now («record_types» .entry)) (now («types_known» .entry)))) (tables.treeAt (tables.table (now (nodes .entry)) (now (literals .entry)) (now («literal_flags» .entry))) node) ⌝ }
 {
-    let Children::Both(pair) = children_of(nodes, node) else {
-        return may_match_alone(
+    let kind = word(nodes, node, 0);
+    if kind <= HAS_Z {
+        return leaf_may_match(
             nodes,
             literals,
             literal_flags,
@@ -208,6 +203,9 @@ fn may_match(
             names,
             node,
         );
+    }
+    let Children::Both(pair) = children_of(nodes, node) else {
+        return kind != LITERAL_FALSE;
     };
     let a = may_match(
         nodes,
@@ -233,7 +231,7 @@ fn may_match(
         names,
         pair.right,
     );
-    both_or_either(word(nodes, node, 0), a, b)
+    both_or_either(kind, a, b)
 }
 
 // All x and y, z and m missing.
@@ -254,8 +252,8 @@ fn intersection_or_full(a: BoundingBox, b: BoundingBox) -> BoundingBox
     out.bounds
 }
 
-// The box of a node without children, for the column of a name.
-fn box_alone(
+// The box of a leaf, for the column of a name.
+fn leaf_box(
     nodes: &[u32],
     literals: &[f64],
     literal_flags: &[u8],
@@ -263,13 +261,9 @@ fn box_alone(
     node: u32,
 ) -> BoundingBox
     requires { ⌜ within.HasNode (now nodes) node ⌝ }
-    ensures { λ r. ⌜ r ≡ filter.boxFor name (tables.alone (tables.table (now (nodes .entry)) (now (literals .entry)) (now («literal_flags» .entry))) node) ⌝ }
+    ensures { λ r. ⌜ r ≡ filter.boxFor name (tables.leafAt (tables.table (now (nodes .entry)) (now (literals .entry)) (now («literal_flags» .entry))) node) ⌝ }
 {
-    let kind = word(nodes, node, 0);
-    if kind == LITERAL_FALSE {
-        return BoundingBox::empty();
-    }
-    if kind >= HAS_Z {
+    if word(nodes, node, 0) == HAS_Z {
         return full();
     }
     if word(nodes, node, 2) == name {
@@ -289,12 +283,19 @@ fn box_for(
     requires { ⌜ within.HasNode (now nodes) node ⌝ }
     ensures { λ r. ⌜ r ≡ filter.boxFor name (tables.treeAt (tables.table (now (nodes .entry)) (now (literals .entry)) (now («literal_flags» .entry))) node) ⌝ }
 {
+    let kind = word(nodes, node, 0);
+    if kind <= HAS_Z {
+        return leaf_box(nodes, literals, literal_flags, name, node);
+    }
     let Children::Both(pair) = children_of(nodes, node) else {
-        return box_alone(nodes, literals, literal_flags, name, node);
+        if kind == LITERAL_FALSE {
+            return BoundingBox::empty();
+        }
+        return full();
     };
     let a = box_for(nodes, literals, literal_flags, name, pair.left);
     let b = box_for(nodes, literals, literal_flags, name, pair.right);
-    if word(nodes, node, 0) == AND {
+    if kind == AND {
         return intersection_or_full(a, b);
     }
     a.merge_box(b)
