@@ -14,8 +14,7 @@ use Rattle.sedona_expr.specs.Names.{hasTwice}
 use Rattle.sedona_expr.specs.Error as error
 use Rattle.sedona_expr.specs.SpatialFilter.{answer}
 use Rattle.sedona_expr.specs.Tables.{Records, Table, root, Lookup, byPosition, byName, recordOf, word, kind, count, isPair, isLeaf, areBelow}
-use Rattle.sedona_expr.specs.Refusals.{orElse, refuseIf, goodFlag, wordsRefusal, areInBoxes, literalsRefusal, wrongNames, lengthsRefusal, valuesRefusal, twiceRefusal, recordsRefusal, isLent, pairRefusal, columnRefusal, leafRefusal, nodeRefusal, nodesRefusal, uses, allBelow, usesRefusal, tableRefusal, treeRefusal, columnsOf, lentTo, refusal, boxRefusal}
-use Rattle.sedona_expr.specs.declared.refusals.Count.the-variants.{Any}
+use Rattle.sedona_expr.specs.Refusals.{orElse, refuseIf, goodFlag, wordsRefusal, areInBoxes, literalsRefusal, wrongNames, lengthsRefusal, valuesRefusal, twiceRefusal, recordsRefusal, isLent, pairRefusal, columnRefusal, leafRefusal, nodeRefusal, nodesRefusal, uses, allBelow, usesRefusal, tableRefusal, treeRefusal, any, columnsOf, lentTo, refusal, boxRefusal}
 use Rattle.sedona_expr.specs.declared.refusals.Lent.{Lent}
 use Rattle.sedona_expr.specs.Calls.{outcome, evaluate, filterBbox}
 use Rattle.sedona_expr.specs.declared.spatial_filter.Evaluation as Evaluation
@@ -78,7 +77,7 @@ module _ (P : ℕ → Type 0) (none : P 0) (words : P error.words) (unknownKind 
 
   pub of-box-refusal : (t : Table) → P (boxRefusal t)
   unfolding boxRefusal
-  of-box-refusal t = of-or-else (of-table t) (of-tree (t .nodes) (lentTo t Any))
+  of-box-refusal t = of-or-else (of-table t) (of-tree (t .nodes) (lentTo t any))
 
 -- ---- 6 is none of them
 abbrev NotSix : ℕ → Type 0

@@ -13,10 +13,8 @@ use Rattle.sedona_geometry.proofs.Booleans.{fails}
 use Rattle.sedona_expr.specs.Within.{HaveMarks}
 use Rattle.sedona_expr.specs.Error as error
 use Rattle.sedona_expr.specs.Tables.{ends, Records, Table, Lookup, kind, word, count, isPair, isLeaf, areBelow}
-use Rattle.sedona_expr.specs.declared.refusals.Count.{Count}
-use Rattle.sedona_expr.specs.declared.refusals.Count.the-variants.{Any, Of}
 use Rattle.sedona_expr.specs.declared.refusals.Lent.{Lent}
-use Rattle.sedona_expr.specs.Refusals.{orElse, refuseIf, wordsRefusal, columnsOf, lentTo, isLent, columnRefusal, leafRefusal, pairRefusal, nodeRefusal, nodesRefusal, usesRefusal, tableRefusal, treeRefusal, recordsRefusal, refusal, boxRefusal}
+use Rattle.sedona_expr.specs.Refusals.{orElse, refuseIf, wordsRefusal, any, columnsOf, lentTo, isLent, columnRefusal, leafRefusal, pairRefusal, nodeRefusal, nodesRefusal, usesRefusal, tableRefusal, treeRefusal, recordsRefusal, refusal, boxRefusal}
 
 -- ---- so many doubles a flag, by quotient and remainder
 pub not-in-boxes : (d f : ℕ) → (d % ends ≡ 0 → ⊥) → eqb d (ends * f) ≡ false
@@ -134,34 +132,34 @@ cond-none true f g h = f h
 cond-none false f g h = g h
 
 -- ---- node by node, where any column is taken as lent
-module _ (ns : List ℕ) (literals columns : Count) where
+module _ (ns : List ℕ) (literals columns : ℕ) where
   abbrev lent : Lent
   lent = record { literals = literals; columns = columns }
 
-  abbrev any : Lent
-  any = record { literals = literals; columns = Any }
+  abbrev free : Lent
+  free = record { literals = literals; columns = any }
 
-  column-none : (n : ℕ) → columnRefusal ns any n ≡ 0
+  column-none : (n : ℕ) → columnRefusal ns free n ≡ 0
   unfolding columnRefusal isLent
   column-none n = refl
 
-  leaf-none : (n : ℕ) → leafRefusal ns lent n ≡ 0 → leafRefusal ns any n ≡ 0
+  leaf-none : (n : ℕ) → leafRefusal ns lent n ≡ 0 → leafRefusal ns free n ≡ 0
   unfolding leafRefusal
   leaf-none n = cond-none (isLent literals (word ns n 3)) (λ h. column-none n) (λ h. h)
 
-  node-none : (n : ℕ) → nodeRefusal ns lent n ≡ 0 → nodeRefusal ns any n ≡ 0
+  node-none : (n : ℕ) → nodeRefusal ns lent n ≡ 0 → nodeRefusal ns free n ≡ 0
   unfolding nodeRefusal
   node-none n =
       cond-none (ltb 6 (kind ns n)) (λ h. h)
       (cond-none (eqb (kind ns n) 2) (λ h. column-none n) (cond-none (isPair (kind ns n)) (λ h. h) (cond-none (isLeaf (kind ns n)) (leaf-none n) (λ h. h))))
 
-  nodes-none : (n : ℕ) → nodesRefusal ns lent n ≡ 0 → nodesRefusal ns any n ≡ 0
+  nodes-none : (n : ℕ) → nodesRefusal ns lent n ≡ 0 → nodesRefusal ns free n ≡ 0
   nodes-none zero h = refl
   nodes-none (suc n) h =
       let b = or-else-zero (nodesRefusal ns lent n) (nodeRefusal ns lent n) h in
       or-else-none (nodes-none n (b .0)) (node-none n (b .1))
 
-  tree-none : treeRefusal ns lent ≡ 0 → treeRefusal ns any ≡ 0
+  tree-none : treeRefusal ns lent ≡ 0 → treeRefusal ns free ≡ 0
   unfolding treeRefusal
   tree-none h =
       let b = or-else-zero (nodesRefusal ns lent (count ns)) (usesRefusal ns) h in
@@ -175,4 +173,4 @@ box-not-refused l t r h =
     let tree = treeRefusal (t .nodes) (lentTo t columns) in
     let a = or-else-zero (tableRefusal t) (orElse (recordsRefusal l r) tree) h in
     let b = or-else-zero (recordsRefusal l r) tree (a .1) in
-    or-else-none (a .0) (tree-none (t .nodes) (Of (length (t .literals .flags))) columns (b .1))
+    or-else-none (a .0) (tree-none (t .nodes) (length (t .literals .flags)) columns (b .1))

@@ -2,15 +2,13 @@
 -- end, are the order of 01.
 use mathlib.Core.Bool.{Bool, true, false, not, _&&_, _||_, cond}
 use mathlib.Core.List.{List}
-use Prim.Native.Nat.{ℕ, zero, suc, _+_, _-_, _*_, _%_}
+use Prim.Native.Nat.{ℕ, zero, suc, _+_, _-_, _*_, _%_, _^_}
 use lib.Dec.{eqb, ltb}
 use lib.ListN.{length}
 use Rattle.sedona_geometry.specs.Lists.{areAll}
 use Rattle.sedona_expr.specs.Error as error
 use Rattle.sedona_expr.specs.Names.{hasTwice}
 use Rattle.sedona_expr.specs.Tables.{ends, flagLimit, Boxes, Records, Table, word, kind, count, isPair, isLeaf, areBelow, Lookup, byPosition, byName}
-use Rattle.sedona_expr.specs.declared.refusals.Count.{Count}
-use Rattle.sedona_expr.specs.declared.refusals.Count.the-variants.{Any, Of}
 use Rattle.sedona_expr.specs.declared.refusals.Lent.{Lent}
 
 -- The first of two numbers that is not 0.
@@ -65,10 +63,13 @@ recordsRefusal l r = orElse (lengthsRefusal l r) (orElse (valuesRefusal (r .boxe
 
 -- ---- node by node
 
+-- So many that every number is lent: no word reaches it.
+abbrev pub any : ℕ
+any = 2 ^ 32
+
 -- A number is lent: it is below so many, or any is.
-unfoldable pub isLent : Count → ℕ → Bool
-isLent Any i = true
-isLent (Of n) i = ltb i n
+unfoldable pub isLent : ℕ → ℕ → Bool
+isLent count i = eqb count any || ltb i count
 
 -- An And or Or: 7 child not below its parent.
 unfoldable pub pairRefusal : List ℕ → ℕ → ℕ
@@ -128,13 +129,13 @@ unfoldable pub treeRefusal : List ℕ → Lent → ℕ
 treeRefusal ns lent = orElse (nodesRefusal ns lent (count ns)) (usesRefusal ns)
 
 -- How many column indices are lent. By name none is looked at.
-abbrev pub columnsOf : Lookup → ℕ → Count
-columnsOf byPosition records = Of records
-columnsOf (byName ns) records = Any
+abbrev pub columnsOf : Lookup → ℕ → ℕ
+columnsOf byPosition records = records
+columnsOf (byName ns) records = any
 
 -- So many literals, and so many columns or any.
-abbrev pub lentTo : Table → Count → Lent
-lentTo t columns = record { literals = Of (length (t .literals .flags)); columns = columns }
+abbrev pub lentTo : Table → ℕ → Lent
+lentTo t columns = record { literals = length (t .literals .flags); columns = columns }
 
 -- The first number in 01's order.
 unfoldable pub refusal : Lookup → Table → Records → ℕ
@@ -142,4 +143,4 @@ refusal l t r = orElse (tableRefusal t) (orElse (recordsRefusal l r) (treeRefusa
 
 -- Of `filter_bbox`, which has no records.
 unfoldable pub boxRefusal : Table → ℕ
-boxRefusal t = orElse (tableRefusal t) (treeRefusal (t .nodes) (lentTo t Any))
+boxRefusal t = orElse (tableRefusal t) (treeRefusal (t .nodes) (lentTo t any))

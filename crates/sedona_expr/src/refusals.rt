@@ -196,25 +196,19 @@ fn records_refusal(
     twice_refusal(named, names)
 }
 
-// How many are lent; or any number is taken as lent.
-pub(crate) enum Count {
-    Any,
-    Of(usize),
-}
-
 // How many literals and columns are lent to the nodes.
 pub(crate) struct Lent {
-    literals: Count,
-    columns: Count,
+    literals: usize,
+    columns: usize,
 }
 
-fn is_lent(count: Count, number: u32) -> bool
+// So many that every number is lent.
+const ANY: usize = 0x1_0000_0000;
+
+fn is_lent(count: usize, number: u32) -> bool
     ensures { λ r. ⌜ r ≡ refusals.isLent count number ⌝ }
 {
-    let Count::Of(n) = count else {
-        return true;
-    };
-    (number as usize) < n
+    (number as usize) < count
 }
 
 // A pair that has a child not below it.
@@ -353,13 +347,10 @@ fn table_refusal(nodes: &[u32], literals: &[f64], literal_flags: &[u8]) -> u32
 }
 
 // How many column indices are lent. By name none is looked at.
-fn columns_of(named: bool, names: &[u32], records: usize) -> Count
+fn columns_of(named: bool, names: &[u32], records: usize) -> usize
     ensures { λ r. ⌜ r ≡ refusals.columnsOf (tables.lookup named (now (names .entry))) records ⌝ }
 {
-    if named {
-        return Count::Any;
-    }
-    Count::Of(records)
+    if named { ANY } else { records }
 }
 
 // What a call is refused by: the first number in this order.
@@ -392,7 +383,7 @@ pub(crate) fn refusal(
         return number;
     }
     let lent = Lent {
-        literals: Count::Of(literal_flags.len()),
+        literals: literal_flags.len(),
         columns: columns_of(named, names, record_flags.len()),
     };
     tree_refusal(nodes, lent)
@@ -407,8 +398,8 @@ pub(crate) fn box_refusal(nodes: &[u32], literals: &[f64], literal_flags: &[u8])
         return number;
     }
     let lent = Lent {
-        literals: Count::Of(literal_flags.len()),
-        columns: Count::Any,
+        literals: literal_flags.len(),
+        columns: ANY,
     };
     tree_refusal(nodes, lent)
 }
