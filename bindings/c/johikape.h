@@ -214,7 +214,7 @@ uint32_t johikape_box_expand_by(double a[8], uint8_t *a_flags, double distance);
 uint32_t johikape_box_to_geoparquet(const double ends[8], uint8_t flags, double array[6],
                                     size_t *count);
 
-/* The box of an array, into ends and flags; turned back, it is the same numbers, +0 for zero. 0; or
+/* The box of an array, into ends and flags; turned back, it has the same numbers, +0 for zero. 0; or
  * JOHIKAPE_BBOX_LENGTH or JOHIKAPE_BAD_NUMBERS, and nothing is written. */
 uint32_t johikape_box_from_geoparquet(const double *array, size_t array_count, double ends[8],
                                       uint8_t *flags);

@@ -108,7 +108,7 @@ class BoundingBox(Value):
 
     @classmethod
     def from_geoparquet(cls, array: Iterable[float]) -> BoundingBox:
-        """The box of such an array: turned back, it is the same numbers, +0 for zero. `Refusal` 12
+        """The box of such an array: turned back, it has the same numbers, +0 for zero. `Refusal` 12
         where it has neither four nor six numbers; then 14, as above.
 
         >>> BoundingBox.from_geoparquet([10, 38, 20, 46])
