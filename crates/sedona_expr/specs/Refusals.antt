@@ -37,7 +37,7 @@ areInBoxes b = eqb (length (b .doubles)) (ends * length (b .flags))
 unfoldable pub literalsRefusal : Boxes → ℕ
 literalsRefusal b = refuseIf (not (areInBoxes b) || not (areAll (goodFlag false) (b .flags))) error.badLists
 
--- By name: as many names as records.
+-- By name: not as many names as records.
 unfoldable pub wrongNames : Lookup → ℕ → Bool
 wrongNames byPosition records = false
 wrongNames (byName ns) records = not (eqb (length ns) records)
