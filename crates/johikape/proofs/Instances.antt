@@ -8,6 +8,7 @@ use lib.Ieee.{Float, binary64, neg, sum, sub, lt, le, eq, isNan, fits, round, of
 use Rattle.sedona_geometry.specs.Float.{minNum, maxNum}
 use Rattle.sedona_geometry.specs.Interval as interval
 use Rattle.sedona_geometry.specs.WraparoundInterval as wraparound
+use Rattle.sedona_geometry.specs.Types.{fromBits}
 use Rattle.sedona_geometry.specs.BoundingBox.{Doubles, Canonical, EqualNumbers, xyzm, testKnown, intersects, withX, intersection}
 use Rattle.sedona_geometry.specs.declared.bounding_box.Dimension as Dimension
 use Rattle.sedona_geometry.specs.declared.bounding_box.Dimension.{Dimension}
@@ -24,6 +25,10 @@ use Rattle.sedona_expr.specs.declared.statistics.Bbox as Bbox
 use Rattle.sedona_expr.specs.declared.statistics.Bbox.{Bbox}
 use Rattle.sedona_expr.specs.declared.statistics.GeometryTypes as GeometryTypes
 use Rattle.sedona_expr.specs.declared.statistics.GeometryTypes.{GeometryTypes}
+use Rattle.sedona_expr.specs.declared.statistics.Total as Total
+use Rattle.sedona_expr.specs.declared.statistics.Total.{Total}
+use Rattle.sedona_expr.specs.declared.statistics.Extent as Extent
+use Rattle.sedona_expr.specs.declared.statistics.Extent.{Extent}
 use Rattle.sedona_expr.specs.declared.statistics.GeoStatistics.{GeoStatistics}
 use Rattle.sedona_expr.proofs.Instances.{reading}
 use Rattle.scan_tariff.specs.Tariff as scan
@@ -121,6 +126,21 @@ records-numbered = (refl, refl, refl, refl, refl)
 pub lists-numbered : (rec.folded (rec.lists [] (pos 0 ∷ []) (0 ∷ []) (0 ∷ [])) .number ≡ 8) × (rec.folded (rec.lists [] [] [] []) .number ≡ 0)
 unfolding rec.listsRefusal rec.folded goodFlag rec.goodFlags statistics.foldFrom
 lists-numbered = (refl, refl)
+
+-- ---- the flags of a record, part by part: 8 types, 16 to 1,024 the totals, 2,048 the width, 4,096 the height
+abbrev numbered-doubles : List Float
+numbered-doubles = map (λ n. ofInt binary64 (pos n)) (0 ∷ 1 ∷ 2 ∷ 3 ∷ 4 ∷ 5 ∷ 6 ∷ 7 ∷ 8 ∷ 9 ∷ [])
+
+abbrev with-flags : ℕ → GeoStatistics
+with-flags f = rec.read numbered-doubles (pos 0 ∷ pos 1 ∷ pos 2 ∷ pos 3 ∷ pos 4 ∷ pos 5 ∷ pos 6 ∷ []) 5 f
+
+pub parts-numbered : (with-flags 8 .«geometry_types» ≡ GeometryTypes.Known (fromBits 5)) × (with-flags 16 .«total_geometries» ≡ Total.Known (pos 0))
+    × (with-flags 32 .«total_size_bytes» ≡ Total.Known (pos 1)) × (with-flags 64 .«total_points» ≡ Total.Known (pos 2))
+    × (with-flags 128 .«puntal_count» ≡ Total.Known (pos 3)) × (with-flags 256 .«lineal_count» ≡ Total.Known (pos 4))
+    × (with-flags 512 .«polygonal_count» ≡ Total.Known (pos 5)) × (with-flags 1024 .«collection_count» ≡ Total.Known (pos 6))
+    × (with-flags 2048 .«total_envelope_width» ≡ Extent.Known (ofInt binary64 (pos 8))) × (with-flags 4096 .«total_envelope_height» ≡ Extent.Known (ofInt binary64 (pos 9)))
+unfolding rec.read
+parts-numbered = (refl, refl, refl, refl, refl, refl, refl, refl, refl, refl)
 
 -- ---- an answer is told from a refusal: a filter that is refused by 4
 pub told-apart : _≡_ {A = Evaluation} (decode (code (evaluate byPosition (table [] [] []) (records [] [] [] [])))) (Evaluation.Refused 4)
