@@ -15,7 +15,7 @@ const WITHOUT_Z: usize = 4;
 const WITH_Z: usize = 6;
 
 // An array with its number: 0, or the number that refuses it, with an empty array beside it.
-#[derive(Drop)]
+#[derive(Clone, Copy)]
 pub struct NumberedArray {
     pub number: u32,
     // How many of the numbers are the array: four or six, or none.

@@ -7,7 +7,7 @@ ghost use Rattle.johikape.specs.Intervals as intervals;
 use sedona_geometry::interval::{Intersection, Interval, WraparoundInterval};
 
 #[repr(C)]
-#[derive(Drop)]
+#[derive(Clone, Copy)]
 pub struct JohikapeInterval {
     pub lo: f64,
     pub hi: f64,

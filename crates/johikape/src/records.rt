@@ -354,7 +354,7 @@ fn record_at(doubles: &[f64], totals: &[i64], types: &[u32], i: usize, flags: u3
 const WHOLE: u32 = ALL - 1;
 
 // A fold as far as it has got, and how many records are in it.
-#[derive(Drop)]
+#[derive(Clone, Copy)]
 pub struct Begun {
     pub folded: Folded,
     pub count: usize,

@@ -86,7 +86,7 @@ fn nodes_named(first: &[u8]) -> usize {
     NO_SETTING
 }
 
-#[derive(Drop)]
+#[derive(Clone, Copy)]
 pub struct Kept {
     // The values and the ends of intervals that sweeps go over; the ends of literals and of records.
     doubles: [Doubles; 4],

@@ -26,7 +26,7 @@ pub const SIZE: usize = 1024;
 pub type Line = [u8; SIZE];
 
 // What becomes of a line: what is kept from then on, and how much of the output buffer is filled.
-#[derive(Drop)]
+#[derive(Clone, Copy)]
 pub struct Outcome {
     pub kept: Kept,
     pub filled: usize,

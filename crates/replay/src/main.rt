@@ -1,5 +1,7 @@
 // Reads cases from standard input and writes them, with their answers, to standard output. Each
 // byte is copied as it is read; before the end of a line comes the reply to it.
+#![tactic(auto)]
+
 mod filters;
 mod kept;
 mod layouts;
@@ -20,7 +22,7 @@ use replay_text::output::{Buffer, flush, put};
 use tables::{MOST_NODE_WORDS, Nodes};
 
 // What is kept from one byte of the input to the next.
-#[derive(Drop)]
+#[derive(Clone, Copy)]
 struct State {
     // What lines left for later ones.
     kept: Kept,

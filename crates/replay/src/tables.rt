@@ -8,7 +8,7 @@ pub const MOST_NODE_WORDS: usize = 4100;
 pub type Nodes = [u32; MOST_NODE_WORDS];
 
 // All but the nodes, which are too many to be copied: of them, how many words they are.
-#[derive(Drop)]
+#[derive(Clone, Copy)]
 pub struct Tables {
     pub node_words: usize,
     pub literals: Doubles,

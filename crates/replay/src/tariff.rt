@@ -15,7 +15,7 @@ use sedona_expr::statistics::Total;
 const RATES: usize = 3;
 
 // A number that a word spells, and where the word ends.
-#[derive(Drop)]
+#[derive(Clone, Copy)]
 struct Number {
     is_good: bool,
     value: u32,

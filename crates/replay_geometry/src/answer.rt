@@ -7,7 +7,7 @@ use sedona_geometry::interval::{Conversion, Intersection, Interval, Pieces, Wrap
 use sedona_geometry::types::GeometryTypeAndDimensionsSet;
 
 // The answer of a call.
-#[derive(Drop)]
+#[derive(Clone, Copy)]
 pub enum Answer {
     // There is no such call, or the operands are not its own.
     Unknown,

@@ -75,7 +75,7 @@ fn dimension_at(words: Words, at: usize) -> Dimension
 }
 
 // A box, and what is left of a number whose last four digits name it.
-#[derive(Drop)]
+#[derive(Clone, Copy)]
 pub struct Numbered {
     pub bounds: BoundingBox,
     pub rest: usize,

@@ -10,7 +10,7 @@ use sedona_geometry::interval::{Interval, WraparoundInterval};
 use sedona_geometry::types::GeometryTypeAndDimensionsSet;
 
 // The operands of a call that takes doubles: fields, since places of an array take far longer to prove.
-#[derive(Drop)]
+#[derive(Clone, Copy)]
 pub struct Four {
     pub a: f64,
     pub b: f64,

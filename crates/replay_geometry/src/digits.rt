@@ -2,7 +2,7 @@
 
 // The last digit, and what is left of the number. An empty list has no place: what is left is then
 // more than all other digits can use up.
-#[derive(Drop)]
+#[derive(Clone, Copy)]
 pub struct Digit {
     pub place: usize,
     pub rest: usize,

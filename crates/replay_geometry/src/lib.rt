@@ -1,4 +1,6 @@
 // The calls of sedona_geometry in the case language: single cases and sweeps.
+#![tactic(auto)]
+
 pub mod answer;
 pub mod boxes;
 pub mod calls;

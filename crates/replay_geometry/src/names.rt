@@ -86,7 +86,7 @@ pub(crate) const SIZE: u8 = 32;
 pub(crate) const CLEAR: u8 = 33;
 
 // A row of the tables below.
-#[derive(Drop)]
+#[derive(Clone, Copy)]
 pub struct Call {
     pub owner: u8,
     pub name: u8,
@@ -95,7 +95,7 @@ pub struct Call {
 }
 
 // What the operands of a call are.
-#[derive(Drop)]
+#[derive(Clone, Copy)]
 pub enum Takes {
     Doubles,
     // One box or two, or a box and a double.

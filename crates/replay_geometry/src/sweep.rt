@@ -35,7 +35,7 @@ pub fn sweep(call: Call, values: Doubles, ends: Doubles, sets: Sets) -> Swept {
 
 // The answer to a call whose operands stand in their lists at the digits of a number. What is left
 // of the number is not 0 where it has more digits than there are operands.
-#[derive(Drop)]
+#[derive(Clone, Copy)]
 struct Turn {
     answer: Answer,
     rest: usize,
@@ -75,7 +75,7 @@ fn turn_of_boxes(number: usize, call: Call, ends: Doubles, values: Doubles) -> T
 }
 
 // What a call takes behind its first box, and what is left of the number.
-#[derive(Drop)]
+#[derive(Clone, Copy)]
 struct Last {
     other: BoundingBox,
     distance: f64,
@@ -127,7 +127,7 @@ fn turn_of_sets(number: usize, call: Call, sets: Sets) -> Turn {
 }
 
 // Two type sets, and what is left of the number.
-#[derive(Drop)]
+#[derive(Clone, Copy)]
 struct Pair {
     first: u32,
     second: u32,
@@ -161,7 +161,7 @@ fn pair_at(number: usize, operands: usize, sets: Sets) -> Pair {
 }
 
 // Doubles, and what is left of a number whose last digits are their places.
-#[derive(Drop)]
+#[derive(Clone, Copy)]
 struct Tuple {
     operands: Four,
     rest: usize,

@@ -3,7 +3,7 @@ use crate::output::{Buffer, put, put_decimal, put_hex};
 use crate::write::bits;
 
 // A digest of answers. Each answer is a few words to it.
-#[derive(Drop)]
+#[derive(Clone, Copy)]
 pub struct Digest {
     pub value: u32,
 }
@@ -34,7 +34,7 @@ impl Digest {
 }
 
 // How many calls were made, and the digest of their answers.
-#[derive(Drop)]
+#[derive(Clone, Copy)]
 pub struct Swept {
     pub count: usize,
     pub digest: Digest,

@@ -21,28 +21,28 @@ pub type Bytes = [u8; MOST_BYTES];
 const NO_BYTES: usize = usize::MAX;
 
 // What a word spells, read as a double.
-#[derive(Drop)]
+#[derive(Clone, Copy)]
 pub enum Reading {
     Double(f64),
     Bad,
 }
 
 // What a word spells, read as a type set.
-#[derive(Drop)]
+#[derive(Clone, Copy)]
 pub enum TypeSet {
     Bits(u32),
     Bad,
 }
 
 // What a word spells, read as a total.
-#[derive(Drop)]
+#[derive(Clone, Copy)]
 pub enum WholeTotal {
     Total(i64),
     Bad,
 }
 
 // What digits spell.
-#[derive(Drop)]
+#[derive(Clone, Copy)]
 enum Number {
     Whole(u64),
     Bad,

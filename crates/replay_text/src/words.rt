@@ -16,7 +16,7 @@ pub const TOTALS: usize = 9;
 pub const EXTENTS: usize = 16;
 
 // The words behind the first of a line, each as all that it can be.
-#[derive(Drop)]
+#[derive(Clone, Copy)]
 pub struct Words {
     pub doubles: [f64; MOST_WORDS],
     pub sets: [u32; MOST_WORDS],
@@ -144,21 +144,21 @@ pub fn read_words(line: &[u8], end_of_first: usize) -> Words {
 }
 
 // A list of doubles.
-#[derive(Drop)]
+#[derive(Clone, Copy)]
 pub struct Doubles {
     pub list: [f64; MOST_WORDS],
     pub count: usize,
 }
 
 // A list of type sets, or of names.
-#[derive(Drop)]
+#[derive(Clone, Copy)]
 pub struct Sets {
     pub list: [u32; MOST_WORDS],
     pub count: usize,
 }
 
 // A list of flags of boxes.
-#[derive(Drop)]
+#[derive(Clone, Copy)]
 pub struct Flags {
     pub list: [u8; MOST_WORDS],
     pub count: usize,

@@ -4,7 +4,7 @@ use crate::output::{Buffer, put, put_all, put_decimal, put_hex};
 use crate::read::LARGEST;
 
 // How a double that is no NaN is written.
-#[derive(Drop)]
+#[derive(Clone, Copy)]
 enum Form {
     // Its magnitude is this many times 1/1024.
     Fraction(u64),

@@ -25,7 +25,7 @@ pub const MOST_SIZES: usize = 1000;
 const HIGHEST_RATE: u32 = 10000;
 
 // Whole cents for a GiB, in each band.
-#[derive(Drop)]
+#[derive(Clone, Copy)]
 pub struct Rates {
     pub first: u32,
     pub second: u32,
@@ -33,7 +33,7 @@ pub struct Rates {
 }
 
 // A fee in cents with its number: 0, or the number that refuses it, with a fee of 0 beside it.
-#[derive(Drop)]
+#[derive(Clone, Copy)]
 pub struct Fee {
     pub number: u32,
     pub cents: u64,

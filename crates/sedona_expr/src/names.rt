@@ -6,7 +6,7 @@ ghost use Rattle.sedona_expr.specs.Names.{find_name, has_twice};
 ghost use Rattle.sedona_expr.specs.Within.{is_other, behind, comes_before, ascends, mark_of};
 
 // What a search for a name gives.
-#[derive(Drop)]
+#[derive(Clone, Copy)]
 pub struct NameSearch {
     pub hit: bool,
     // The hit's place, counted from 0; how many names there are, where none is a hit.

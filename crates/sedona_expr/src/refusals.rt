@@ -182,7 +182,7 @@ fn records_refusal(
 }
 
 // How many literals and columns are lent to the nodes.
-#[derive(Drop)]
+#[derive(Clone, Copy)]
 pub(crate) struct Lent {
     literals: usize,
     columns: usize,

@@ -18,7 +18,7 @@ use sedona_geometry::bounding_box::{BoundingBox, Dimension, NumberedBox};
 use sedona_geometry::interval::{Interval, WraparoundInterval};
 use sedona_geometry::types::GeometryTypeAndDimensionsSet;
 
-#[derive(Drop)]
+#[derive(Clone, Copy)]
 pub enum Evaluation {
     MayMatch,
     CannotMatch,

@@ -8,33 +8,33 @@ use crate::error::OVERFLOW;
 use sedona_geometry::bounding_box::BoundingBox;
 use sedona_geometry::types::GeometryTypeAndDimensionsSet;
 
-#[derive(Drop)]
+#[derive(Clone, Copy)]
 pub enum Bbox {
     Missing,
     Known(BoundingBox),
 }
 
-#[derive(Drop)]
+#[derive(Clone, Copy)]
 pub enum GeometryTypes {
     Missing,
     Known(GeometryTypeAndDimensionsSet),
 }
 
 // A total that is a whole number.
-#[derive(Drop)]
+#[derive(Clone, Copy)]
 pub enum Total {
     Missing,
     Known(i64),
 }
 
 // A total that is a length.
-#[derive(Drop)]
+#[derive(Clone, Copy)]
 pub enum Extent {
     Missing,
     Known(f64),
 }
 
-#[derive(Drop)]
+#[derive(Clone, Copy)]
 pub struct GeoStatistics {
     pub bbox: Bbox,
     pub geometry_types: GeometryTypes,
@@ -50,7 +50,7 @@ pub struct GeoStatistics {
 }
 
 // A record and 0, or UNSPECIFIED and the number that refuses it.
-#[derive(Drop)]
+#[derive(Clone, Copy)]
 pub struct Merged {
     pub number: u32,
     pub rec: GeoStatistics,
@@ -350,7 +350,7 @@ impl Merged {
 }
 
 // The records of a list in one: the first of them, then each merged with the next.
-#[derive(Drop)]
+#[derive(Clone, Copy)]
 pub struct Folded {
     pub number: u32,
     // Whether the list has a record.

@@ -71,13 +71,13 @@ pub(crate) fn is_pair(kind: u32) -> bool
 }
 
 // The children of a node.
-#[derive(Drop)]
+#[derive(Clone, Copy)]
 pub(crate) struct Pair {
     pub(crate) left: u32,
     pub(crate) right: u32,
 }
 
-#[derive(Drop)]
+#[derive(Clone, Copy)]
 pub(crate) enum Children {
     Neither,
     Both(Pair),
@@ -146,7 +146,7 @@ pub fn box_at(doubles: &[f64], flags: &[u8], place: usize) -> Bbox
 }
 
 // A column's record as a leaf sees it: its box, or none, and its types, or none.
-#[derive(Drop)]
+#[derive(Clone, Copy)]
 pub struct ColumnRecord {
     pub bbox: Bbox,
     pub types: GeometryTypes,

@@ -14,7 +14,6 @@ use Rattle.sedona_geometry.specs.declared.interval.Interval.{Interval}
 use Rattle.sedona_geometry.specs.declared.interval.WraparoundInterval.{WraparoundInterval}
 use Rattle.sedona_geometry.specs.declared.interval.Pieces.{Pieces}
 use Rattle.sedona_geometry.specs.declared.interval.Conversion.{Conversion}
-use Rattle.sedona_geometry.specs.declared.interval.Conversion.TheVariants as Conversion
 use Rattle.sedona_geometry.specs.declared.interval.Intersection.{Intersection}
 use Rattle.sedona_geometry.specs.declared.interval.Intersection.TheVariants.{Single, Refused}
 use Rattle.sedona_geometry.specs.declared.bounding_box.Dimension.{Dimension}

@@ -77,6 +77,8 @@ module _ (f : Format) (s : Bool) (m : ℕ) (e : ℤ) (F : T (fits f (fin s (suc 
       go (fin t n d) h G =
           let k : fin t n d ≡ fin s n d = ap (λ (b : Bool). fin b n d) h.0 in
           k ∙ same_value f s n d (suc m) e h.1 (subst (λ (z : Float). T (fits f z)) k G) F
+      go nan h G = elim h [ ]
+      go (inf _) h G = elim h [ ]
 
 -- ---- +0 added: so `plus_zero` makes it
 plus_zeros : (f : Format) (s : Bool) (c : ℕ) → 0 < c → sum f s 0 false 0 c ≡ float.zero

@@ -8,13 +8,10 @@ pub mod Contains
 pub mod Exact
 pub mod Instances
 pub mod Keys
-pub mod Kind
 pub mod MinMax
 pub mod Order
 pub mod PlusZero
 pub mod Rising
 pub mod Rounding
-pub mod Says
 pub mod Sign
-pub mod Update
 pub mod Wrapping

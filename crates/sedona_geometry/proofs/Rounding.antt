@@ -377,12 +377,18 @@ unfolding sub
 inf_sub f true (inf false) N = refl
 inf_sub f false (inf true) N = refl
 inf_sub f s (fin t n d) N = refl
+inf_sub f s nan N = elim N [ ]
+inf_sub f false (inf false) N = elim N [ ]
+inf_sub f true (inf true) N = elim N [ ]
 
 sub_inf : (f : Format) (x : Float) (t : Bool) → Number (sub f x (inf t)) → sub f x (inf t) ≡ inf (not t)
 unfolding sub
 sub_inf f (inf true) false N = refl
 sub_inf f (inf false) true N = refl
 sub_inf f (fin s m e) t N = refl
+sub_inf f nan t N = elim N [ ]
+sub_inf f (inf false) false N = elim N [ ]
+sub_inf f (inf true) true N = elim N [ ]
 
 -- a difference that is a number has numbers for operands
 pub sub_number : (f : Format) (x y : Float) → Number (sub f x y) → Number x × Number y
@@ -391,6 +397,9 @@ sub_number f (inf s) (inf t) N = (infinite, infinite)
 sub_number f (inf s) (fin t n d) N = (infinite, finite)
 sub_number f (fin s m e) (inf t) N = (finite, infinite)
 sub_number f (fin s m e) (fin t n d) N = (finite, finite)
+sub_number f nan y N = elim N [ ]
+sub_number f (inf s) nan N = elim N [ ]
+sub_number f (fin s m e) nan N = elim N [ ]
 
 -- a difference of numbers is a NaN only between infinities of one sign
 sub_nan : (f : Format) (x y : Float) → Number x → Number y → sub f x y ≡ nan → (s : Bool) × (x ≡ inf s) × (y ≡ inf s)
@@ -402,6 +411,9 @@ sub_nan f (inf false) (inf false) X Y h = (false, refl, refl)
 sub_nan f (inf s) (fin t n d) X Y h = absurd (number_no_nan infinite h)
 sub_nan f (fin s m e) (inf t) X Y h = absurd (number_no_nan infinite h)
 sub_nan f (fin s m e) (fin t n d) X Y h = absurd (number_no_nan (sub_fin_number f s m e t n d) h)
+sub_nan f nan y X Y h = elim X [ ]
+sub_nan f (inf s) nan X Y h = elim Y [ ]
+sub_nan f (fin s m e) nan X Y h = elim Y [ ]
 
 -- ---- the laws of a rounded difference
 module _ (f : Format) where
@@ -422,6 +434,10 @@ module _ (f : Format) where
   mono (fin s m e) (fin t n d) (fin s' m' e') (inf true) N M N' M' h k P Q = rw (sub_inf f (fin s' m' e') true Q) (top P)
   mono (fin s m e) (fin t n d) (fin s' m' e') (inf false) N M N' M' h k P Q = absurd h.test
   mono (fin s m e) (fin t n d) (fin s' m' e') (fin t' n' d') N M N' M' h k P Q = sub_fin_mono f s m e t n d s' m' e' t' n' d' h k
+  mono nan lo hi' lo' N M N' M' h k P Q = elim N [ ]
+  mono (fin s m e) nan hi' lo' N M N' M' h k P Q = elim M [ ]
+  mono (fin s m e) (fin t n d) nan lo' N M N' M' h k P Q = elim N' [ ]
+  mono (fin s m e) (fin t n d) (fin s' m' e') nan N M N' M' h k P Q = elim M' [ ]
 
   pub sub_mono : {hi lo hi' lo' : Float} → Le lo' lo → Le hi hi' → Number (sub f hi lo) → Number (sub f hi' lo') → Le (sub f hi lo) (sub f hi' lo')
   sub_mono {hi} {lo} {hi'} {lo'} h k P Q =

@@ -6,7 +6,7 @@ ghost use Rattle.sedona_geometry.specs.BoundingBox as bounding_box;
 use crate::interval::{Intersection, Interval, WraparoundInterval};
 
 // A z or an m: nothing is known of it, or its interval.
-#[derive(Drop)]
+#[derive(Clone, Copy)]
 pub enum Dimension {
     Missing,
     Known(Interval),
@@ -87,7 +87,7 @@ impl Dimension {
     }
 }
 
-#[derive(Drop)]
+#[derive(Clone, Copy)]
 pub struct BoundingBox {
     pub x: WraparoundInterval,
     pub y: Interval,
@@ -96,7 +96,7 @@ pub struct BoundingBox {
 }
 
 // A box with its number: 0, or the number that refuses it, with an empty box beside it.
-#[derive(Drop)]
+#[derive(Clone, Copy)]
 pub struct NumberedBox {
     pub number: u32,
     pub bounds: BoundingBox,

@@ -10,7 +10,7 @@ use crate::error::{TWO_PARTS, WRAPPED};
 use crate::float::{abs, infinity, max, min, plus_zero};
 
 // The numbers from lo to hi, both ends among them. It never wraps around.
-#[derive(Drop)]
+#[derive(Clone, Copy)]
 pub struct Interval {
     pub lo: f64,
     pub hi: f64,
@@ -148,13 +148,13 @@ impl Interval {
 }
 
 // An x: where it wraps it holds the values up to hi and those from lo on.
-#[derive(Drop)]
+#[derive(Clone, Copy)]
 pub struct WraparoundInterval {
     pub inner: Interval,
 }
 
 // The two plain intervals that an x stands for.
-#[derive(Drop)]
+#[derive(Clone, Copy)]
 pub struct Pieces {
     pub left: Interval,
     pub right: Interval,
@@ -178,14 +178,14 @@ impl Pieces {
 }
 
 // A plain interval, or the number that refuses it.
-#[derive(Drop)]
+#[derive(Clone, Copy)]
 pub enum Conversion {
     Plain(Interval),
     Refused(u32),
 }
 
 // An x, or the number that refuses it.
-#[derive(Drop)]
+#[derive(Clone, Copy)]
 pub enum Intersection {
     Single(WraparoundInterval),
     Refused(u32),

@@ -3,7 +3,7 @@
 ghost use Rattle.std.specs.Prelude.{◌≡◌};
 ghost use Rattle.sedona_geometry.specs.Types as types;
 
-#[derive(Drop)]
+#[derive(Clone, Copy)]
 pub struct GeometryTypeAndDimensionsSet {
     pub types: u32,
 }

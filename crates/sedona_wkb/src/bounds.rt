@@ -19,7 +19,7 @@ const MOST_BYTES: usize = 65536;
 const DEEPEST: u32 = 32;
 
 // A box with its number, and the set of one type; beside a number that refuses, the set of none.
-#[derive(Drop)]
+#[derive(Clone, Copy)]
 pub struct WkbBounds {
     pub numbered: NumberedBox,
     pub types: GeometryTypeAndDimensionsSet,

@@ -11,7 +11,7 @@ use crate::numbers::{double_at, is_short, word_at};
 use sedona_geometry::interval::Interval;
 
 // The coordinates read so far, as intervals.
-#[derive(Drop)]
+#[derive(Clone, Copy)]
 pub struct Extents {
     pub x: Interval,
     pub y: Interval,
@@ -20,7 +20,7 @@ pub struct Extents {
 }
 
 // Where what was read ends, and the extents with it; or the number that refuses it.
-#[derive(Drop)]
+#[derive(Clone, Copy)]
 pub enum Reached {
     At(usize, Extents),
     Refused(u32),

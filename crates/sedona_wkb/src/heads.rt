@@ -15,7 +15,7 @@ pub(crate) const POLYGON: u32 = 3;
 
 pub(crate) const COLLECTION: u32 = 7;
 
-#[derive(Drop)]
+#[derive(Clone, Copy)]
 pub struct Head {
     // Whether numbers have their low byte first.
     pub low: bool,
@@ -25,7 +25,7 @@ pub struct Head {
 }
 
 // A head and where it ends, or the number that refuses it.
-#[derive(Drop)]
+#[derive(Clone, Copy)]
 pub enum Headed {
     At(Head, usize),
     Refused(u32),

@@ -1,0 +1,13 @@
+-- `WraparoundInterval::contains_interval` meets its contract: by the ends where both run low to high. Assumes nothing.
+use mathlib.Core.Path.{sym, ◌∙◌}
+use Rattle.sedona_geometry.proofs.Rising.{rising_contain}
+use Rattle.sedona_geometry.proofs.interval.WraparoundInterval.contains_interval.Goals as goal
+
+pub returns-then-both_rise : goal.returns-then-both_rise
+returns-then-both_rise c =
+    let rise = c.both_rise.ensures in
+    let args = c.args in
+    c.contains_interval.ensures ∙ sym (rising_contain args.self args.other rise.1.0 rise.1.1 (sym rise.0 ∙ c.if-both_rise.true))
+
+pub returns : goal.returns
+returns c = c.contains_by_pieces.ensures

@@ -1,0 +1,11 @@
+-- `WraparoundInterval::width` meets its contract. Assumes nothing.
+use Rattle.sedona_geometry.specs.WraparoundInterval.{width}
+use Rattle.sedona_geometry.proofs.interval.WraparoundInterval.width.Goals as goal
+
+pub returns-then-is_wraparound : goal.returns-then-is_wraparound
+unfolding width
+returns-then-is_wraparound c = rw (c.infinity.ensures, ← c.is_wraparound.ensures, c.if-is_wraparound.true)
+
+pub returns-else-is_wraparound : goal.returns-else-is_wraparound
+unfolding width
+returns-else-is_wraparound c = rw (c.width.ensures, ← c.is_wraparound.ensures, c.if-is_wraparound.false)
