@@ -14,7 +14,7 @@ import sys
 TOKEN = re.compile(r"""[^\s(){}\[\];,.`"]+""")
 ALIAS = re.compile(r"^(?:ghost )?use \S+ as ([a-z]\w*)", re.M)
 LOCAL = re.compile(r"(?:let |[({])([a-z][^\s(){},;:`\"]*-[^\s(){},;:`\"]*) [:=] ")
-DECLARED = re.compile(r"^ *(?:(?:unfoldable|abbrev|pub|data|record|ruleset|syntax) +)*([^\s(){},;:`\"]+) *:(?: |$)", re.M)
+DECLARED = re.compile(r"^ *(?:(?:unfoldable|abbrev|pub|data|record|ruleset|syntax) +)*([^\s(){},;:`\"]+(?: [^\s(){},;:`\"]+)*) *:(?: |$)", re.M)
 FUNCTION_PROOF = re.compile(r"/proofs/(.*/)?[+a-z_][^/]*/[^/]+\.antt$|/proofs/.*/(Proof|Answers|Invariants)\.antt$")
 
 
@@ -47,6 +47,11 @@ def files(kind):
     return sorted(p for p in pathlib.Path("crates").rglob(kind) if "out" not in p.parts)
 
 
+def declared(text):
+    """The names that a file's lines declare, one or several to a line."""
+    return [name for names in DECLARED.findall(re.sub(r"--.*", "", text)) for name in names.split(" ")]
+
+
 def law_files():
     return [p for p in files("*.antt") if not FUNCTION_PROOF.search("/" + str(p))]
 
@@ -59,7 +64,7 @@ def own_names():
     """Each name that a definition or law file declares, with the files that do."""
     found = {}
     for path in law_files():
-        for name in DECLARED.findall(text_of(path)) + LOCAL.findall(text_of(path)):
+        for name in declared(text_of(path)) + LOCAL.findall(text_of(path)):
             if is_own(name):
                 found.setdefault(name, set()).add(str(path))
     for path in files("*.antt") + files("*.rt"):
@@ -89,10 +94,10 @@ def words_of(text):
 
 def turned_before():
     """Names with a dash or a capital on the pages that port.py has respelled in the crates."""
-    declared = {name for path in law_files() for name in DECLARED.findall(text_of(path))}
+    there = {name for path in law_files() for name in declared(text_of(path))}
     pages = {word for path in pathlib.Path(".").rglob("*.md") for part in re.findall(r"`[^`\n]*`", text_of(path))
              for word in TOKEN.findall(part)}
-    return {word: set() for word in pages if is_own(word) and word not in declared and snake(word) in declared}
+    return {word: set() for word in pages if is_own(word) and word not in there and snake(word) in there}
 
 
 def together():

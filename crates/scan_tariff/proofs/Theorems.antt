@@ -11,7 +11,7 @@ use lib.IntN.{+ℤ_idr}
 use lib.ListN.{length, length-map}
 use Rattle.sedona_geometry.specs.Lists.{are_all}
 use Rattle.sedona_geometry.proofs.Order.{ℕ_le_or_lt}
-use Rattle.sedona_expr.specs.Statistics.{fold, sum, total, sizeBytes}
+use Rattle.sedona_expr.specs.Statistics.{fold, sum, total, size_bytes}
 use Rattle.sedona_expr.specs.declared.statistics.Total as Total
 use Rattle.sedona_expr.specs.declared.statistics.Total.{Total}
 use Rattle.sedona_expr.specs.declared.statistics.GeoStatistics.{GeoStatistics}
@@ -86,9 +86,9 @@ fee_of_one s r = of_one s.total_size_bytes r
 --     e    the fold is not refused: no total leaves its range
 --     l, b    the list passes, as above. One that does not gets 18, where a record of more records than 1,000, or of sizes that mend each
 --             other, may have a fee
-pub fee_of_fold : (s : GeoStatistics) (ss : List GeoStatistics) (r : Rates) → (fold (s ∷ ss)).number ≡ 0 → length (s ∷ ss) ≤ 1000 → are_all is_billed (map (total sizeBytes) (s ∷ ss)) ≡ true
-    → fee_of_record (fold (s ∷ ss)).rec r ≡ fee_of_sizes (map (total sizeBytes) (s ∷ ss)) r
-fee_of_fold s ss r e l b = ap (λ (t : Total). fee_of_total t r) (totals_are_sums sizeBytes s ss e) ∙ sym (fee_of_list (map (total sizeBytes) (s ∷ ss)) r (subst (λ (n : ℕ). n ≤ 1000) (sym (length-map (s ∷ ss) (total sizeBytes))) l) b)
+pub fee_of_fold : (s : GeoStatistics) (ss : List GeoStatistics) (r : Rates) → (fold (s ∷ ss)).number ≡ 0 → length (s ∷ ss) ≤ 1000 → are_all is_billed (map (total size_bytes) (s ∷ ss)) ≡ true
+    → fee_of_record (fold (s ∷ ss)).rec r ≡ fee_of_sizes (map (total size_bytes) (s ∷ ss)) r
+fee_of_fold s ss r e l b = ap (λ (t : Total). fee_of_total t r) (totals_are_sums size_bytes s ss e) ∙ sym (fee_of_list (map (total size_bytes) (s ∷ ss)) r (subst (λ (n : ℕ). n ≤ 1000) (sym (length-map (s ∷ ss) (total size_bytes))) l) b)
 
 -- ---- more bytes
 

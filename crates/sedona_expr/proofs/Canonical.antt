@@ -16,7 +16,6 @@ use Rattle.sedona_expr.specs.Refusals.{box_refusal}
 use Rattle.sedona_expr.specs.SpatialFilter.{box_for}
 use Rattle.sedona_expr.specs.Statistics.{plus_zero_where_known, merge_bboxes, unspecified, empty, plus_zero, refused, totals_overflow, counts_overflow, merge_parts, merge_value, merge_or_keep, merge, start, first, of_merged, stays, step, fold_from, fold, CanonicalWhereKnown}
 use Rattle.sedona_expr.specs.Tables.{Boxes, has_box, knows_z, knows_m, interval_at, box_with, box_at, Table, root}
-use Rattle.sedona_expr.specs.declared.statistics.Bbox as Bbox
 use Rattle.sedona_expr.specs.declared.statistics.Bbox.{Bbox}
 use Rattle.sedona_expr.specs.declared.statistics.GeoStatistics.{GeoStatistics}
 use Rattle.sedona_expr.specs.declared.statistics.Folded.{Folded}

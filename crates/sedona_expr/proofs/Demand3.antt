@@ -14,7 +14,6 @@ use Rattle.sedona_expr.specs.Refusals.{box_refusal}
 use Rattle.sedona_expr.specs.SpatialFilter.{box_for}
 use Rattle.sedona_expr.specs.Calls.{outcome, filter_bbox}
 use Rattle.sedona_expr.specs.Demand.{Row, WhereBox, Holds, EachLeaf, OfLiteral, Wanted, is_point, low_to_high, Pointed, MayMatch, Reaches, Demand3}
-use Rattle.sedona_expr.specs.declared.statistics.Bbox as Bbox
 use Rattle.sedona_expr.specs.declared.statistics.Bbox.{Bbox}
 use Rattle.sedona_expr.specs.declared.statistics.GeoStatistics.{GeoStatistics}
 use Rattle.sedona_expr.proofs.Points.{point, ordered}

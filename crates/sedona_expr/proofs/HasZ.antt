@@ -12,7 +12,6 @@ use Rattle.sedona_geometry.specs.Interval as interval
 use Rattle.sedona_geometry.specs.BoundingBox.{WhereKnown, plus_zero_where_known, join_known, merge_dimensions}
 use Rattle.sedona_geometry.specs.Types.{merge, has}
 use Rattle.sedona_geometry.specs.declared.interval.Interval.{Interval}
-use Rattle.sedona_geometry.specs.declared.bounding_box.Dimension as Dimension
 use Rattle.sedona_geometry.specs.declared.bounding_box.Dimension.{Dimension}
 use Rattle.sedona_geometry.specs.declared.types.GeometryTypeAndDimensionsSet.{GeometryTypeAndDimensionsSet}
 use Rattle.sedona_geometry.proofs.Booleans.{holds, is_true, is_false, or_right, or_cases}
@@ -24,9 +23,7 @@ use Rattle.sedona_expr.specs.Statistics as statistics
 use Rattle.sedona_expr.specs.Statistics.{merge_bboxes, merge_types, merge_parts, fold}
 use Rattle.sedona_expr.specs.SpatialFilter.{is_z, has_z_type, may_be_z, is_known_empty, has_empty_z, may_have_z}
 use Rattle.sedona_expr.specs.Demand.{HasBox, low_to_high, MissingOrRising, HasTypes, HasBit, Some}
-use Rattle.sedona_expr.specs.declared.statistics.Bbox as Bbox
 use Rattle.sedona_expr.specs.declared.statistics.Bbox.{Bbox}
-use Rattle.sedona_expr.specs.declared.statistics.GeometryTypes as GeometryTypes
 use Rattle.sedona_expr.specs.declared.statistics.GeometryTypes.{GeometryTypes}
 use Rattle.sedona_expr.specs.declared.statistics.GeoStatistics.{GeoStatistics}
 use Rattle.sedona_expr.specs.declared.tables.ColumnRecord.{ColumnRecord}

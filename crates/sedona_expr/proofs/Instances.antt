@@ -12,7 +12,6 @@ use Rattle.sedona_geometry.specs.Interval as interval
 use Rattle.sedona_geometry.specs.WraparoundInterval as wraparound
 use Rattle.sedona_geometry.specs.BoundingBox.{join_known, merge_box}
 use Rattle.sedona_geometry.specs.Types.{from_bits, has}
-use Rattle.sedona_geometry.specs.declared.bounding_box.Dimension as Dimension
 use Rattle.sedona_geometry.specs.declared.bounding_box.Dimension.{Dimension}
 use Rattle.sedona_geometry.specs.declared.types.GeometryTypeAndDimensionsSet.{GeometryTypeAndDimensionsSet}
 use Rattle.sedona_geometry.proofs.Instances as boxes
@@ -23,11 +22,8 @@ use Rattle.sedona_expr.specs.Tables.{table, Lookup, by_position, by_name, are_be
 use Rattle.sedona_expr.specs.Tables as tables
 use Rattle.sedona_expr.specs.Refusals.{or_else, words_refusal, good_flag, literals_refusal, wrong_names, lengths_refusal, values_refusal, twice_refusal, records_refusal, pair_refusal, is_lent, column_refusal, leaf_refusal, node_refusal, uses_by, uses_refusal, table_refusal, tree_refusal, refusal}
 use Rattle.sedona_expr.specs.Demand.{HasBox, MissingOrRising, HasTypes}
-use Rattle.sedona_expr.specs.declared.statistics.Bbox as Bbox
 use Rattle.sedona_expr.specs.declared.statistics.Bbox.{Bbox}
-use Rattle.sedona_expr.specs.declared.statistics.GeometryTypes as GeometryTypes
 use Rattle.sedona_expr.specs.declared.statistics.GeometryTypes.{GeometryTypes}
-use Rattle.sedona_expr.specs.declared.statistics.Total as Total
 use Rattle.sedona_expr.specs.declared.statistics.Total.{Total}
 use Rattle.sedona_expr.specs.declared.statistics.GeoStatistics.{GeoStatistics}
 use Rattle.sedona_expr.proofs.HasZ.{fold_types, fold_z}

@@ -13,7 +13,7 @@ use Rattle.sedona_geometry.proofs.Accepts.{new_doubles, plus_doubles}
 use Rattle.sedona_geometry.proofs.Boxes.{plus_known_doubles}
 use Rattle.sedona_geometry.proofs.Booleans.{of_cond}
 use Rattle.sedona_geometry.specs.Lists.{All}
-use Rattle.sedona_expr.specs.SpatialFilter.{Column, Filter, intersects, covers, has_z, and, or, literalFalse, unknown}
+use Rattle.sedona_expr.specs.SpatialFilter.{Column, Filter, intersects, covers, has_z, and, or, literal_false, unknown}
 use Rattle.sedona_expr.specs.Tables.{Boxes, ends, has_box, interval_at, box_with, box_at, or_empty, Table, kind, word, leaf_of, pair_of, has_children, leaf_at, alone, tree_of, trees_below, tree_at, knows_z, knows_m}
 use Rattle.sedona_expr.specs.Demand.{Leaf, of_box, a_has_z, EachLeaf, OfLiteral}
 use Rattle.sedona_expr.proofs.StraightBoxes.{empty_straight}
@@ -31,7 +31,7 @@ leaves_zip P Q R g (covers c k) p q = g (of_box k) c p q
 leaves_zip P Q R g (has_z c) p q = g a_has_z c p q
 leaves_zip P Q R g (and f h) p q = (leaves_zip P Q R g f p.0 q.0, leaves_zip P Q R g h p.1 q.1)
 leaves_zip P Q R g (or f h) p q = (leaves_zip P Q R g f p.0 q.0, leaves_zip P Q R g h p.1 q.1)
-leaves_zip P Q R g literalFalse p q = tt
+leaves_zip P Q R g literal_false p q = tt
 leaves_zip P Q R g unknown p q = tt
 
 pub literal_zip : (P Q R : BoundingBox → Type 0) → ((k : BoundingBox) → P k → Q k → R k) → (l : Leaf) → OfLiteral P l → OfLiteral Q l → OfLiteral R l

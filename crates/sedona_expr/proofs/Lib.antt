@@ -1,6 +1,5 @@
 pub mod Canonical
 pub mod Demand3
-pub mod Folding
 pub mod Folds
 pub mod HasZ
 pub mod Instances
@@ -20,7 +19,6 @@ pub mod Theorems
 pub mod Trees
 pub mod Twice
 pub mod WantedRow
-pub mod While
 pub mod Whole
 pub mod WithoutHasZ
 pub mod WordBits

@@ -6,16 +6,14 @@ use mathlib.Core.List.{List, [], ◌∷◌}
 use Rattle.sedona_geometry.specs.Interval as interval
 use Rattle.sedona_geometry.specs.BoundingBox as bounding_box
 use Rattle.sedona_geometry.specs.declared.interval.Interval.{Interval}
-use Rattle.sedona_geometry.specs.declared.bounding_box.Dimension as Dimension
 use Rattle.sedona_geometry.specs.declared.bounding_box.Dimension.{Dimension}
 use Rattle.sedona_geometry.specs.declared.bounding_box.BoundingBox.{BoundingBox}
 use Rattle.sedona_geometry.proofs.Booleans.{holds, is_true, or_right}
 use Rattle.sedona_geometry.proofs.Boxes as boxes
 use Rattle.sedona_geometry.specs.Lists.{All}
 use Rattle.sedona_expr.specs.Statistics.{DoublesWhereKnown, NoLess, plus_zero_where_known, merge_bboxes, merge_parts, fold}
-use Rattle.sedona_expr.specs.SpatialFilter.{Column, Filter, intersects, covers, has_z, and, or, literalFalse, unknown, may_intersect, may_cover, may_have_z, answer}
+use Rattle.sedona_expr.specs.SpatialFilter.{Column, Filter, intersects, covers, has_z, and, or, literal_false, unknown, may_intersect, may_cover, may_have_z, answer}
 use Rattle.sedona_expr.specs.Demand.{Cell, HasBox, MissingOrRising, HoldsZ, Holds, Leaf, a_has_z, EachLeaf, Some, Folds, HasBit}
-use Rattle.sedona_expr.specs.declared.statistics.Bbox as Bbox
 use Rattle.sedona_expr.specs.declared.statistics.Bbox.{Bbox}
 use Rattle.sedona_expr.specs.declared.statistics.GeoStatistics.{GeoStatistics}
 use Rattle.sedona_expr.specs.declared.tables.ColumnRecord.{ColumnRecord}
@@ -149,5 +147,5 @@ module _ (own : Column → Cell) (lent : Column → ColumnRecord) (lists : Colum
   may_match (and f g) F h = rw (may_match f F.0 h.0, may_match g F.1 h.1)
   may_match (or f g) F (inl h) = rw (may_match f F.0 h)
   may_match (or f g) F (inr h) = is_true (answer lent f || answer lent g) (or_right (answer lent f) (answer lent g) (holds (may_match g F.1 h)))
-  may_match literalFalse F h = absurd h
+  may_match literal_false F h = absurd h
   may_match unknown F h = refl

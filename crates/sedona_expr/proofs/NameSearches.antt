@@ -8,7 +8,7 @@ use lib.Dec.{eqb, ltb}
 use lib.ListN.{length, get_or}
 use borrow.Author.Tests.{ltb-true, ltb-false, lt-ltb, le-ltb}
 use Rattle.sedona_expr.specs.Names.{hit_at_once, further, find_name, first_at, place_of}
-use Rattle.sedona_expr.specs.SpatialFilter.{Column, Filter, intersects, covers, has_z, and, or, literalFalse, unknown, answer}
+use Rattle.sedona_expr.specs.SpatialFilter.{Column, Filter, intersects, covers, has_z, and, or, literal_false, unknown, answer}
 use Rattle.sedona_expr.specs.Tables.{Records, record_at, Table, root, by_name, place, record_of}
 use Rattle.sedona_expr.specs.Refusals.{refusal}
 use Rattle.sedona_expr.specs.Calls.{outcome, evaluate}
@@ -49,7 +49,7 @@ answer_same r s e (covers c k) = rw (e c)
 answer_same r s e (has_z c) = rw (e c)
 answer_same r s e (and f g) = rw (answer_same r s e f, answer_same r s e g)
 answer_same r s e (or f g) = rw (answer_same r s e f, answer_same r s e g)
-answer_same r s e literalFalse = refl
+answer_same r s e literal_false = refl
 answer_same r s e unknown = refl
 
 -- "no caller of the filter should notice": the definition by name, which is what it was, gives the answer of the leaves whose records are where the

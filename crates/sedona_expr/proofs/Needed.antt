@@ -10,16 +10,13 @@ use Rattle.sedona_geometry.specs.Interval as interval
 use Rattle.sedona_geometry.specs.WraparoundInterval as wraparound
 use Rattle.sedona_geometry.specs.BoundingBox.{xy, xyzm, test_known, join_known, contains, merge_box, with_x, intersection, Common}
 use Rattle.sedona_geometry.specs.Types.{from_bits}
-use Rattle.sedona_geometry.specs.declared.bounding_box.Dimension as Dimension
 use Rattle.sedona_geometry.specs.declared.bounding_box.Dimension.{Dimension}
 use Rattle.sedona_geometry.specs.declared.bounding_box.BoundingBox.{BoundingBox}
 use Rattle.sedona_expr.specs.Statistics.{merge_bboxes, merge_types}
 use Rattle.sedona_expr.specs.SpatialFilter.{Filter, intersects, covers, and, or, box_for, or_full, is_z, has_z_type, may_be_z, is_known_empty, has_empty_z, may_have_z}
 use Rattle.sedona_expr.specs.Tables.{column}
 use Rattle.sedona_expr.specs.Demand.{Holds}
-use Rattle.sedona_expr.specs.declared.statistics.Bbox as Bbox
 use Rattle.sedona_expr.specs.declared.statistics.Bbox.{Bbox}
-use Rattle.sedona_expr.specs.declared.statistics.GeometryTypes as GeometryTypes
 use Rattle.sedona_expr.specs.declared.statistics.GeometryTypes.{GeometryTypes}
 use Rattle.sedona_expr.specs.declared.tables.ColumnRecord.{ColumnRecord}
 

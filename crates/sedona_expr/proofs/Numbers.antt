@@ -17,7 +17,6 @@ use Rattle.sedona_expr.specs.Tables.{Records, Table, root, Lookup, by_position, 
 use Rattle.sedona_expr.specs.Refusals.{or_else, refuse_if, good_flag, words_refusal, are_in_boxes, literals_refusal, wrong_names, lengths_refusal, values_refusal, twice_refusal, records_refusal, is_lent, pair_refusal, column_refusal, leaf_refusal, node_refusal, nodes_refusal, uses, all_below, uses_refusal, table_refusal, tree_refusal, any, columns_of, lent_to, refusal, box_refusal}
 use Rattle.sedona_expr.specs.declared.refusals.Lent.{Lent}
 use Rattle.sedona_expr.specs.Calls.{outcome, evaluate, filter_bbox}
-use Rattle.sedona_expr.specs.declared.spatial_filter.Evaluation as Evaluation
 use Rattle.sedona_expr.specs.declared.spatial_filter.Evaluation.{Evaluation}
 
 -- ---- what is so of 0 and of each of these numbers is so of what a call gives

@@ -11,9 +11,8 @@ use Rattle.sedona_geometry.specs.declared.bounding_box.BoundingBox.{BoundingBox}
 use Rattle.sedona_geometry.proofs.Contains.{Straight}
 use Rattle.sedona_geometry.proofs.Boxes.{Parts, Rising, parts_of_contains, merge_contains}
 use Rattle.sedona_geometry.proofs.Booleans.{of_cond}
-use Rattle.sedona_expr.specs.SpatialFilter.{Column, Filter, intersects, covers, has_z, and, or, literalFalse, unknown, full, box_for}
+use Rattle.sedona_expr.specs.SpatialFilter.{Column, Filter, intersects, covers, has_z, and, or, literal_false, unknown, full, box_for}
 use Rattle.sedona_expr.specs.Demand.{Cell, HasBox, Holds, EachLeaf, OfLiteral}
-use Rattle.sedona_expr.specs.declared.statistics.Bbox as Bbox
 use Rattle.sedona_expr.specs.declared.statistics.Bbox.{Bbox}
 use Rattle.sedona_expr.proofs.Points.{Point, point_low_to_high, full_reaches, common_reaches, contained_reaches}
 use Rattle.sedona_expr.proofs.StraightBoxes.{StraightBox, empty_straight, full_straight, merge_straight, intersection_straight, intersection_contains}
@@ -36,7 +35,7 @@ box_straight n (covers c k) L = of_cond StraightBox (eqb c.name n) (literal_stra
 box_straight n (has_z c) L = full_straight
 box_straight n (and f g) L = intersection_straight (box_straight n f L.0) (box_straight n g L.1)
 box_straight n (or f g) L = merge_straight (box_straight n f L.0) (box_straight n g L.1)
-box_straight n literalFalse L = empty_straight
+box_straight n literal_false L = empty_straight
 box_straight n unknown L = full_straight
 
 -- ---- where the filter holds, the box contains the point of the columns of that name
@@ -60,5 +59,5 @@ module _ (n : ℕ) (own : Column → Cell) (b : BoundingBox) (D : Doubles b) (p 
   reaches (or f g) L e h =
       merge_contains (box_straight n f L.0).doubles (box_straight n g L.1).doubles
       (⊎_elim (λ a. inl (reaches f L.0 e.0 a)) (λ a. inr (reaches g L.1 e.1 a)) h)
-  reaches literalFalse L e h = absurd h
+  reaches literal_false L e h = absurd h
   reaches unknown L e h = full_reaches D p

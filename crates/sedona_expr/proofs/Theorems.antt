@@ -10,11 +10,9 @@ use lib.Dec.{eqb}
 use Rattle.sedona_geometry.proofs.Boxes as boxes
 use Rattle.sedona_geometry.specs.Lists.{All}
 use Rattle.sedona_expr.specs.Within.{SumsStay}
-use Rattle.sedona_expr.specs.Statistics.{plus_zero_where_known, merge_bboxes, add_extents, add_totals, sum_is_outside, totals_overflow, counts_overflow, merge_parts, plus_zero, refused, merge_value, fold_from, fold, DoublesWhereKnown, NoLess, Which, geometries, sizeBytes, points, puntal, lineal, polygonal, collection, total, Side, width, height, extent, plus, sum, whole_sum, add_all, PrefixSumsFit, Tree, leaf, node, merge_answers, merge_tree, AllLeaves}
+use Rattle.sedona_expr.specs.Statistics.{plus_zero_where_known, merge_bboxes, add_extents, add_totals, sum_is_outside, totals_overflow, counts_overflow, merge_parts, plus_zero, refused, merge_value, fold_from, fold, DoublesWhereKnown, NoLess, Which, geometries, size_bytes, points, puntal, lineal, polygonal, collection, total, Side, width, height, extent, plus, sum, whole_sum, add_all, PrefixSumsFit, Tree, leaf, node, merge_answers, merge_tree, AllLeaves}
 use Rattle.sedona_expr.specs.Error as error
-use Rattle.sedona_expr.specs.declared.statistics.Bbox as Bbox
 use Rattle.sedona_expr.specs.declared.statistics.Bbox.{Bbox}
-use Rattle.sedona_expr.specs.declared.statistics.Total as Total
 use Rattle.sedona_expr.specs.declared.statistics.Total.{Total}
 use Rattle.sedona_expr.specs.declared.statistics.Extent.{Extent}
 use Rattle.sedona_expr.specs.declared.statistics.GeoStatistics.{GeoStatistics}
@@ -87,7 +85,7 @@ no_box_shrinks (r ∷ rs) D e =
 total_merged : (w : Which) (a b : GeoStatistics) → total w (merge_parts a b) ≡ add_totals (total w a) (total w b)
 unfolding merge_parts
 total_merged geometries a b = refl
-total_merged sizeBytes a b = refl
+total_merged size_bytes a b = refl
 total_merged points a b = refl
 total_merged puntal a b = refl
 total_merged lineal a b = refl
@@ -97,7 +95,7 @@ total_merged collection a b = refl
 -- a record handed on keeps its totals
 total_plus : (w : Which) (a : GeoStatistics) → total w (plus_zero a) ≡ total w a
 total_plus geometries a = refl
-total_plus sizeBytes a = refl
+total_plus size_bytes a = refl
 total_plus points a = refl
 total_plus puntal a = refl
 total_plus lineal a = refl
@@ -115,8 +113,8 @@ sums_stay a b e = go
     both : (totals_overflow a b ≡ false) × (counts_overflow a b ≡ false)
     both = neither (totals_overflow a b) (counts_overflow a b) e
 
-    three : ((l geometries || l sizeBytes) ≡ false) × (l points ≡ false)
-    three = neither (l geometries || l sizeBytes) (l points) both.0
+    three : ((l geometries || l size_bytes) ≡ false) × (l points ≡ false)
+    three = neither (l geometries || l size_bytes) (l points) both.0
 
     four : ((l puntal || l lineal || l polygonal) ≡ false) × (l collection ≡ false)
     four = neither (l puntal || l lineal || l polygonal) (l collection) both.1
@@ -125,8 +123,8 @@ sums_stay a b e = go
     last = neither (l puntal || l lineal) (l polygonal) four.0
 
     go : (v : Which) → sum_is_outside (total v a) (total v b) ≡ false
-    go geometries = (neither (l geometries) (l sizeBytes) three.0).0
-    go sizeBytes = (neither (l geometries) (l sizeBytes) three.0).1
+    go geometries = (neither (l geometries) (l size_bytes) three.0).0
+    go size_bytes = (neither (l geometries) (l size_bytes) three.0).1
     go points = three.1
     go puntal = (neither (l puntal) (l lineal) last.0).0
     go lineal = (neither (l puntal) (l lineal) last.0).1
@@ -135,7 +133,7 @@ sums_stay a b e = go
 
 overflows_not : (a b : GeoStatistics) → SumsStay a b → overflow a b ≡ false
 unfolding totals_overflow counts_overflow
-overflows_not a b h = rw (h geometries, h sizeBytes, h points, h puntal, h lineal, h polygonal, h collection)
+overflows_not a b h = rw (h geometries, h size_bytes, h points, h puntal, h lineal, h polygonal, h collection)
 
 add_is_plus : (t u : Total) → sum_is_outside t u ≡ false → add_totals t u ≡ plus t u
 unfolding sum_is_outside add_totals

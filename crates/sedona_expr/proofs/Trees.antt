@@ -7,12 +7,11 @@ use native.Mathlib.Omega.{arith}
 use lib.Dec.{eqb, ltb}
 use borrow.Author.Tests.{eqb-true, eqb-false, eq-eqb, ne_eqb, lt-ltb, le-ltb, ltb-true}
 use Rattle.sedona_geometry.specs.declared.bounding_box.BoundingBox.{BoundingBox}
-use Rattle.sedona_expr.specs.SpatialFilter.{Column, Filter, intersects, covers, and, or, literalFalse, unknown, may_intersect, may_cover, answer, full, box_for}
+use Rattle.sedona_expr.specs.SpatialFilter.{Column, Filter, intersects, covers, and, or, literal_false, unknown, may_intersect, may_cover, answer, full, box_for}
 use Rattle.sedona_expr.specs.Tables.{Table, word, kind, is_pair, leaf_of, pair_of, are_below, has_children, leaf_at, alone, tree_of, trees_below, tree_at}
 use Rattle.sedona_expr.specs.Within.{children_of}
 use Rattle.sedona_expr.specs.declared.tables.ColumnRecord.{ColumnRecord}
 use Rattle.sedona_expr.specs.declared.tables.Pair.{Pair}
-use Rattle.sedona_expr.specs.declared.tables.Children as Children
 use Rattle.sedona_expr.specs.declared.tables.Children.{Children}
 
 pub trees_below_lem : (t : Table) (n m : ℕ) → m < n → trees_below t n m ≡ tree_at t m
@@ -98,7 +97,7 @@ module _ {B : Type 0} (say : Filter → B) (t : Table) (n : ℕ) where
   unfolding tree_at tree_of has_children alone
   says_leaf h = rw (leaf_no_pair (kind t.nodes n) h, le-ltb 2 (kind t.nodes n) h)
 
-  pub says_other : 2 < kind t.nodes n → Children.Neither ≡ children_of t.nodes n → say (tree_at t n) ≡ say (cond (eqb (kind t.nodes n) 5) literalFalse unknown)
+  pub says_other : 2 < kind t.nodes n → Children.Neither ≡ children_of t.nodes n → say (tree_at t n) ≡ say (cond (eqb (kind t.nodes n) 5) literal_false unknown)
   unfolding tree_at tree_of alone
   says_other h e = rw (found_none t.nodes n e, lt-ltb 2 (kind t.nodes n) h)
 
@@ -114,7 +113,7 @@ module _ {B : Type 0} (say : Filter → B) (t : Table) (n : ℕ) where
 
 -- ---- what a node without children says
 -- a LiteralFalse, else an Unknown
-pub answer_other : (own : Column → ColumnRecord) (b : Bool) → answer own (cond b literalFalse unknown) ≡ not b
+pub answer_other : (own : Column → ColumnRecord) (b : Bool) → answer own (cond b literal_false unknown) ≡ not b
 answer_other own true = refl
 answer_other own false = refl
 

@@ -15,7 +15,6 @@ use Rattle.sedona_geometry.specs.Interval as interval
 use Rattle.sedona_geometry.specs.WraparoundInterval as wraparound
 use Rattle.sedona_geometry.specs.BoundingBox as bounding_box
 use Rattle.sedona_geometry.specs.Types.{from_bits}
-use Rattle.sedona_geometry.specs.declared.bounding_box.Dimension as Dimension
 use Rattle.sedona_geometry.specs.declared.bounding_box.Dimension.{Dimension}
 use Rattle.sedona_geometry.specs.declared.bounding_box.BoundingBox.{BoundingBox}
 use Rattle.sedona_geometry.proofs.Booleans.{fails}
@@ -26,9 +25,7 @@ use Rattle.sedona_expr.specs.Tables as tables
 use Rattle.sedona_expr.specs.Refusals as refusals
 use Rattle.sedona_expr.specs.Tables.{Records, Table, Lookup, by_position, by_name}
 use Rattle.sedona_expr.specs.Demand.{Row, WhereBox, Leaf, of_box, a_has_z, Beside, Folds, Wanted, is_point, Numbers, Pointed, MayMatch, Reaches}
-use Rattle.sedona_expr.specs.declared.statistics.Bbox as Bbox
 use Rattle.sedona_expr.specs.declared.statistics.Bbox.{Bbox}
-use Rattle.sedona_expr.specs.declared.statistics.GeometryTypes as GeometryTypes
 use Rattle.sedona_expr.specs.declared.statistics.GeometryTypes.{GeometryTypes}
 use Rattle.sedona_expr.specs.declared.statistics.GeoStatistics.{GeoStatistics}
 use Rattle.sedona_expr.proofs.Instances.{reading}

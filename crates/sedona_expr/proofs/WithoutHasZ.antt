@@ -8,7 +8,7 @@ use lib.IntN.{pos}
 use lib.Ieee.{Float, binary64, of_int}
 use lib.ListN.{length, replicate, length-replicate}
 use Rattle.sedona_geometry.specs.Lists.{are_all}
-use Rattle.sedona_expr.specs.SpatialFilter.{Column, Filter, intersects, covers, has_z, and, or, literalFalse, unknown, answer}
+use Rattle.sedona_expr.specs.SpatialFilter.{Column, Filter, intersects, covers, has_z, and, or, literal_false, unknown, answer}
 use Rattle.sedona_expr.specs.Tables.{Records, records, Table, table, leaf_of, pair_of, are_below, has_children, leaf_at, alone, tree_of, tree_at, root, Lookup, by_position, record_of}
 use Rattle.sedona_expr.specs.Refusals.{lengths_refusal, values_refusal, records_refusal, refusal}
 use Rattle.sedona_expr.specs.Calls.{evaluate}
@@ -23,7 +23,7 @@ same_boxes r s e (covers c k) n = rw (e c)
 same_boxes r s e (has_z c) n = absurd n
 same_boxes r s e (and f g) n = rw (same_boxes r s e f n.0, same_boxes r s e g n.1)
 same_boxes r s e (or f g) n = rw (same_boxes r s e f n.0, same_boxes r s e g n.1)
-same_boxes r s e literalFalse n = refl
+same_boxes r s e literal_false n = refl
 same_boxes r s e unknown n = refl
 
 -- types that pass, and such as are all unknown, add no number

@@ -5,7 +5,6 @@ use Rattle.sedona_geometry.specs.declared.bounding_box.NumberedBox.{NumberedBox}
 use Rattle.sedona_expr.specs.SpatialFilter.{answer, box_for}
 use Rattle.sedona_expr.specs.Tables.{Records, Table, root, Lookup, record_of}
 use Rattle.sedona_expr.specs.Refusals.{refusal, box_refusal}
-use Rattle.sedona_expr.specs.declared.spatial_filter.Evaluation as Evaluation
 use Rattle.sedona_expr.specs.declared.spatial_filter.Evaluation.{Evaluation}
 
 -- The answer where the number is 0, and else the number.

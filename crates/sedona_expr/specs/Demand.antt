@@ -13,17 +13,14 @@ use Rattle.sedona_geometry.specs.declared.bounding_box.BoundingBox.{BoundingBox}
 use Rattle.sedona_geometry.specs.declared.types.GeometryTypeAndDimensionsSet.{GeometryTypeAndDimensionsSet}
 use Rattle.sedona_expr.specs.Statistics.{fold}
 use Rattle.sedona_expr.specs.Statistics as statistics
-use Rattle.sedona_expr.specs.SpatialFilter.{Column, Filter, intersects, covers, has_z, and, or, literalFalse, unknown, is_z}
+use Rattle.sedona_expr.specs.SpatialFilter.{Column, Filter, intersects, covers, has_z, and, or, literal_false, unknown, is_z}
 use Rattle.sedona_expr.specs.Tables.{Records, record_at, Table, root, Lookup, by_position, by_name, place}
 use Rattle.sedona_expr.specs.Refusals.{refusal}
 use Rattle.sedona_expr.specs.Calls.{evaluate, filter_bbox}
-use Rattle.sedona_expr.specs.declared.statistics.Bbox as Bbox
 use Rattle.sedona_expr.specs.declared.statistics.Bbox.{Bbox}
-use Rattle.sedona_expr.specs.declared.statistics.GeometryTypes as GeometryTypes
 use Rattle.sedona_expr.specs.declared.statistics.GeometryTypes.{GeometryTypes}
 use Rattle.sedona_expr.specs.declared.statistics.GeoStatistics.{GeoStatistics}
 use Rattle.sedona_expr.specs.declared.tables.ColumnRecord.{ColumnRecord}
-use Rattle.sedona_expr.specs.declared.spatial_filter.Evaluation as Evaluation
 use Rattle.sedona_expr.specs.declared.spatial_filter.Evaluation.{Evaluation}
 
 -- ---- rows and filters
@@ -67,7 +64,7 @@ Holds own (covers c k) = HasBox (λ b. bounding_box.contains b k ≡ true) (own 
 Holds own (has_z c) = HoldsZ (own c)
 Holds own (and f g) = Holds own f × Holds own g
 Holds own (or f g) = Holds own f ⊎ Holds own g
-Holds own literalFalse = ⊥
+Holds own literal_false = ⊥
 Holds own unknown = Unit {0}
 
 -- What a leaf is, but for its column: an Intersects or a Covers of a literal, or a HasZ.
@@ -82,7 +79,7 @@ EachLeaf P (covers c k) = P (of_box k) c
 EachLeaf P (has_z c) = P a_has_z c
 EachLeaf P (and f g) = EachLeaf P f × EachLeaf P g
 EachLeaf P (or f g) = EachLeaf P f × EachLeaf P g
-EachLeaf P literalFalse = Unit {0}
+EachLeaf P literal_false = Unit {0}
 EachLeaf P unknown = Unit {0}
 
 -- Of a leaf's literal. A HasZ has none.

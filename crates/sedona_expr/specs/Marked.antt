@@ -9,7 +9,6 @@ use Rattle.sedona_geometry.specs.declared.interval.WraparoundInterval.{Wraparoun
 use Rattle.sedona_geometry.specs.declared.interval.Intersection.{Intersection}
 use Rattle.sedona_expr.specs.Tables.{Records, Table, records, table, by_position}
 use Rattle.sedona_expr.specs.Calls.{evaluate, filter_bbox}
-use Rattle.sedona_expr.specs.declared.spatial_filter.Evaluation as Evaluation
 use Rattle.sedona_expr.specs.declared.spatial_filter.Evaluation.{Evaluation}
 
 -- A call and its answer.

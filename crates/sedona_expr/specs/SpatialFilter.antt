@@ -4,14 +4,11 @@ use Rattle.sedona_geometry.specs.Interval as interval
 use Rattle.sedona_geometry.specs.WraparoundInterval as wraparound
 use Rattle.sedona_geometry.specs.BoundingBox as bounding_box
 use Rattle.sedona_geometry.specs.Types as types
-use Rattle.sedona_geometry.specs.declared.bounding_box.Dimension as Dimension
 use Rattle.sedona_geometry.specs.declared.bounding_box.Dimension.{Dimension}
 use Rattle.sedona_geometry.specs.declared.bounding_box.BoundingBox.{BoundingBox}
 use Rattle.sedona_geometry.specs.declared.bounding_box.NumberedBox.{NumberedBox}
 use Rattle.sedona_geometry.specs.declared.types.GeometryTypeAndDimensionsSet.{GeometryTypeAndDimensionsSet}
-use Rattle.sedona_expr.specs.declared.statistics.Bbox as Bbox
 use Rattle.sedona_expr.specs.declared.statistics.Bbox.{Bbox}
-use Rattle.sedona_expr.specs.declared.statistics.GeometryTypes as GeometryTypes
 use Rattle.sedona_expr.specs.declared.statistics.GeometryTypes.{GeometryTypes}
 use Rattle.sedona_expr.specs.declared.tables.ColumnRecord.{ColumnRecord}
 
@@ -24,7 +21,7 @@ pub data Filter : Type 0 where
   intersects covers : Column → BoundingBox → Filter
   has_z : Column → Filter
   and or : Filter → Filter → Filter
-  literalFalse unknown : Filter
+  literal_false unknown : Filter
 
 -- The record's box intersects the literal; true where it has none.
 unfoldable pub may_intersect : Bbox → BoundingBox → Bool
@@ -75,7 +72,7 @@ answer r (covers c k) = may_cover (r c).bbox k
 answer r (has_z c) = may_have_z (r c)
 answer r (and f g) = answer r f && answer r g
 answer r (or f g) = answer r f || answer r g
-answer r literalFalse = false
+answer r literal_false = false
 answer r unknown = true
 
 -- All x and y, z and m missing.
@@ -93,5 +90,5 @@ box_for n (covers c k) = cond (eqb c.name n) k full
 box_for n (has_z c) = full
 box_for n (and f g) = or_full (bounding_box.intersection (box_for n f) (box_for n g))
 box_for n (or f g) = bounding_box.merge_box (box_for n f) (box_for n g)
-box_for n literalFalse = bounding_box.empty
+box_for n literal_false = bounding_box.empty
 box_for n unknown = full

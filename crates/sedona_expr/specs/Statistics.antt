@@ -7,14 +7,10 @@ use Rattle.sedona_geometry.specs.Float as float
 use Rattle.sedona_geometry.specs.BoundingBox as bounding_box
 use Rattle.sedona_geometry.specs.Types as types
 use Rattle.sedona_expr.specs.Error as error
-use Rattle.sedona_expr.specs.declared.statistics.Bbox as Bbox
 use Rattle.sedona_expr.specs.declared.statistics.Bbox.{Bbox}
-use Rattle.sedona_expr.specs.declared.statistics.GeometryTypes as GeometryTypes
 use Rattle.sedona_expr.specs.declared.statistics.GeometryTypes.{GeometryTypes}
 use Rattle.sedona_expr.specs.declared.statistics.Total.{Total}
-use Rattle.sedona_expr.specs.declared.statistics.Total as Total
 use Rattle.sedona_expr.specs.declared.statistics.Extent.{Extent}
-use Rattle.sedona_expr.specs.declared.statistics.Extent as Extent
 use Rattle.sedona_expr.specs.declared.statistics.GeoStatistics.{GeoStatistics}
 use Rattle.sedona_expr.specs.declared.statistics.Merged.{Merged}
 use Rattle.sedona_expr.specs.declared.statistics.Folded.{Folded}
@@ -117,11 +113,11 @@ plus_zero a = record {
 
 -- The seven totals.
 pub data Which : Type 0 where
-  geometries sizeBytes points puntal lineal polygonal collection : Which
+  geometries size_bytes points puntal lineal polygonal collection : Which
 
 abbrev pub total : Which → GeoStatistics → Total
 total geometries a = a.total_geometries
-total sizeBytes a = a.total_size_bytes
+total size_bytes a = a.total_size_bytes
 total points a = a.total_points
 total puntal a = a.puntal_count
 total lineal a = a.lineal_count

@@ -9,10 +9,8 @@ use Rattle.sedona_geometry.specs.Types as types
 use Rattle.sedona_geometry.specs.declared.interval.Interval.{Interval}
 use Rattle.sedona_geometry.specs.declared.bounding_box.BoundingBox.{BoundingBox}
 use Rattle.sedona_expr.specs.Names.{place_of}
-use Rattle.sedona_expr.specs.SpatialFilter.{Column, Filter, intersects, covers, has_z, and, or, literalFalse, unknown}
-use Rattle.sedona_expr.specs.declared.statistics.Bbox as Bbox
+use Rattle.sedona_expr.specs.SpatialFilter.{Column, Filter, intersects, covers, has_z, and, or, literal_false, unknown}
 use Rattle.sedona_expr.specs.declared.statistics.Bbox.{Bbox}
-use Rattle.sedona_expr.specs.declared.statistics.GeometryTypes as GeometryTypes
 use Rattle.sedona_expr.specs.declared.statistics.GeometryTypes.{GeometryTypes}
 use Rattle.sedona_expr.specs.declared.tables.ColumnRecord.{ColumnRecord}
 
@@ -143,7 +141,7 @@ leaf_at t n =
 
 -- The tree of a node without children. (An And or Or with a child that is not below is refused; an Unknown stands for it here.)
 unfoldable pub alone : Table → ℕ → Filter
-alone t n = cond (ltb 2 (kind t.nodes n)) (cond (eqb (kind t.nodes n) 5) literalFalse unknown) (leaf_at t n)
+alone t n = cond (ltb 2 (kind t.nodes n)) (cond (eqb (kind t.nodes n) 5) literal_false unknown) (leaf_at t n)
 
 -- The tree of a node, given the trees of nodes below it.
 unfoldable pub tree_of : Table → ℕ → (ℕ → Filter) → Filter

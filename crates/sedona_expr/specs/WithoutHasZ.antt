@@ -1,7 +1,7 @@
 -- Filters without HasZ, and tables whose types are all unknown.
 use Rattle.std.specs.Prelude.{◌≡◌, true, ltb, length, replicate}
 use Rattle.sedona_geometry.specs.Lists.{are_all}
-use Rattle.sedona_expr.specs.SpatialFilter.{Filter, intersects, covers, has_z, and, or, literalFalse, unknown}
+use Rattle.sedona_expr.specs.SpatialFilter.{Filter, intersects, covers, has_z, and, or, literal_false, unknown}
 use Rattle.sedona_expr.specs.Tables.{Boxes, Records}
 
 -- No leaf is a HasZ.
@@ -11,7 +11,7 @@ NoHasZ (covers c k) = Unit {0}
 NoHasZ (has_z c) = ⊥
 NoHasZ (and f g) = NoHasZ f × NoHasZ g
 NoHasZ (or f g) = NoHasZ f × NoHasZ g
-NoHasZ literalFalse = Unit {0}
+NoHasZ literal_false = Unit {0}
 NoHasZ unknown = Unit {0}
 
 -- The same boxes, and no type known.

@@ -1,0 +1,11 @@
+-- `names::comes_before` meets its contract. Assumes nothing.
+use mathlib.Core.Path.{sym}
+use native.Mathlib.Omega.{arith}
+use lib.Seq.{length-take-le}
+use Rattle.sedona_expr.proofs.names.comes_before.Goals as goal
+
+pub slice_bounds-find_name-end : goal.slice_bounds-find_name-end
+slice_bounds-find_name-end c = sym (length-take-le c.args.i c.args.names.now (omega (arith, c.requires)))
+
+pub returns : goal.returns
+returns c = rw c.find_name-found.ensures

@@ -1,0 +1,42 @@
+-- `GeoStatistics::counts_overflow` meets its contract. Assumes nothing.
+use Rattle.sedona_expr.specs.Statistics.{counts_overflow}
+use Rattle.sedona_expr.proofs.statistics.GeoStatistics.counts_overflow.Goals as goal
+
+pub returns-then-overflows : goal.returns-then-overflows
+unfolding counts_overflow
+returns-then-overflows c = rw (← c.overflows.ensures, c.if-overflows.true)
+
+pub returns-then-overflows-2 : goal.returns-then-overflows-2
+unfolding counts_overflow
+returns-then-overflows-2 c =
+    rw (
+      ← c.overflows.ensures,
+      c.if-overflows.false,
+      ← c.overflows-else-overflows.ensures,
+      c.if-overflows-2.true,
+    )
+
+pub returns-then-overflows-3 : goal.returns-then-overflows-3
+unfolding counts_overflow
+returns-then-overflows-3 c =
+    rw (
+      ← c.overflows.ensures,
+      c.if-overflows.false,
+      ← c.overflows-else-overflows.ensures,
+      c.if-overflows-2.false,
+      ← c.overflows-else-overflows-2.ensures,
+      c.if-overflows-3.true,
+    )
+
+pub returns-else-overflows-3 : goal.returns-else-overflows-3
+unfolding counts_overflow
+returns-else-overflows-3 c =
+    rw (
+      ← c.overflows.ensures,
+      c.if-overflows.false,
+      ← c.overflows-else-overflows.ensures,
+      c.if-overflows-2.false,
+      ← c.overflows-else-overflows-2.ensures,
+      c.if-overflows-3.false,
+      c.overflows-else-overflows-3.ensures,
+    )
