@@ -7,7 +7,6 @@ use lib.IntN.{pos, negsuc}
 use lib.ListN.{replicate}
 use Rattle.sedona_expr.specs.Statistics.{sum_is_outside, is_outside, totals_overflow, counts_overflow, merge_value, step, fold_from, fold, unspecified, sum}
 use Rattle.sedona_expr.specs.Refusals.{or_else}
-use Rattle.sedona_expr.specs.declared.statistics.Total as Total
 use Rattle.sedona_expr.specs.declared.statistics.Total.{Total}
 use Rattle.sedona_expr.specs.declared.statistics.GeoStatistics.{GeoStatistics}
 use Rattle.scan_tariff.specs.Tariff.{gib, exact, nearest_cent, is_billed, total_refusal, sizes_refusal, rates_refusal, refused, fee, fee_of_total, fee_of_record, fee_of_sizes, difference}

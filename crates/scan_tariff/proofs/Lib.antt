@@ -1,5 +1,4 @@
 pub mod Cents
 pub mod Instances
-pub mod Limited
 pub mod Sizes
 pub mod Theorems

@@ -18,7 +18,6 @@ use Rattle.sedona_geometry.proofs.Booleans.{fails, holds}
 use Rattle.sedona_geometry.proofs.Order.{ℕ_le_or_lt}
 use Rattle.sedona_expr.specs.Statistics.{plus, sum}
 use Rattle.sedona_expr.specs.Refusals.{or_else}
-use Rattle.sedona_expr.specs.declared.statistics.Total as Total
 use Rattle.sedona_expr.specs.declared.statistics.Total.{Total}
 use Rattle.scan_tariff.specs.Error as error
 use Rattle.scan_tariff.specs.Tariff.{most_bytes, is_billed, total_refusal, sizes_refusal, rates_refusal, refused, cents, fee, fee_of_total, fee_of_sizes}

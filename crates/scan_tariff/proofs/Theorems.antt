@@ -12,7 +12,6 @@ use lib.ListN.{length, length-map}
 use Rattle.sedona_geometry.specs.Lists.{are_all}
 use Rattle.sedona_geometry.proofs.Order.{ℕ_le_or_lt}
 use Rattle.sedona_expr.specs.Statistics.{fold, sum, total, size_bytes}
-use Rattle.sedona_expr.specs.declared.statistics.Total as Total
 use Rattle.sedona_expr.specs.declared.statistics.Total.{Total}
 use Rattle.sedona_expr.specs.declared.statistics.GeoStatistics.{GeoStatistics}
 use Rattle.sedona_expr.proofs.Theorems.{totals_are_sums}

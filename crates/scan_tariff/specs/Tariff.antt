@@ -3,7 +3,6 @@ use Rattle.std.specs.Prelude.{Bool, false, not, ◌||◌, cond, List, ℕ, suc, 
 use Rattle.sedona_geometry.specs.Lists.{are_all}
 use Rattle.sedona_expr.specs.Statistics.{sum}
 use Rattle.sedona_expr.specs.Refusals.{or_else, refuse_if}
-use Rattle.sedona_expr.specs.declared.statistics.Total as Total
 use Rattle.sedona_expr.specs.declared.statistics.Total.{Total}
 use Rattle.sedona_expr.specs.declared.statistics.GeoStatistics.{GeoStatistics}
 use Rattle.scan_tariff.specs.Error as error

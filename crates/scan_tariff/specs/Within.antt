@@ -1,7 +1,6 @@
 -- What contracts of the steps of a sum alone cite. Who reads the fees and the theorems need not read it: none of them rests on it.
 use Rattle.std.specs.Prelude.{cond, List, [], ◌∷◌, pos}
 use Rattle.sedona_expr.specs.Statistics.{plus}
-use Rattle.sedona_expr.specs.declared.statistics.Total as Total
 use Rattle.sedona_expr.specs.declared.statistics.Total.{Total}
 use Rattle.scan_tariff.specs.Tariff.{is_billed}
 

@@ -42,7 +42,7 @@ fn read_many(bytes: &[u8], at: usize, head: Head, e: Extents) -> Reached
 }
 
 // What follows a head, where so many collections may still open.
-#[cycle(read_body_read_collection_read_part)]
+#[cycle(bodies)]
 pub(crate) fn read_body(bytes: &[u8], at: usize, head: Head, room: u32, e: Extents) -> Reached
     ensures { outcome.entered e (wkb.read_body room head (drop at bytes.now)) ≡ outcome.reached bytes.now result }
 {
@@ -59,7 +59,7 @@ pub(crate) fn read_body(bytes: &[u8], at: usize, head: Head, room: u32, e: Exten
 }
 
 // A count, and as many geometries.
-#[cycle(read_body_read_collection_read_part)]
+#[cycle(bodies)]
 fn read_collection(bytes: &[u8], at: usize, head: Head, room: u32, e: Extents) -> Reached
     ensures { outcome.entered e (wkb.read_collection room head (drop at bytes.now)) ≡ outcome.reached bytes.now result }
 {
@@ -82,7 +82,7 @@ fn read_collection(bytes: &[u8], at: usize, head: Head, room: u32, e: Extents) -
 }
 
 // A geometry in a collection.
-#[cycle(read_body_read_collection_read_part)]
+#[cycle(bodies)]
 fn read_part(bytes: &[u8], at: usize, parent: Head, room: u32, e: Extents) -> Reached
     ensures { outcome.entered e (wkb.read_part room parent (drop at bytes.now)) ≡ outcome.reached bytes.now result }
 {

@@ -1,0 +1,46 @@
+-- `coordinates::enter_all` meets its contract: what is entered and the coordinates that are left are all there is. Assumes nothing.
+use mathlib.Core.Path.{◌≡◌, refl, sym, ◌∙◌}
+use Prim.Native.Nat.{ℕ, suc, zero, ◌+◌, ◌*◌, ◌-◌, ◌<◌, ◌≤◌}
+use native.Mathlib.Nat.{suc-mul}
+use native.Mathlib.Omega.{arith}
+use lib.ListN.{length}
+use borrow.Author.Rules.{rules}
+use Rattle.sedona_wkb.specs.Places.{width}
+use Rattle.sedona_wkb.proofs.Readers.{enter_first, enter_none}
+use Rattle.sedona_wkb.proofs.coordinates.enter_all.Goals as goal
+
+-- The first of those that are left is there, and then the others.
+first-there : (place n w len : ℕ) → 0 < n → place + n * w ≤ len → place + w + (n - 1) * w ≤ len
+first-there place zero w len z g = absurd (omega arith)
+first-there place (suc n) w len z g = let m : suc n - 1 ≡ n = omega arith in rw m (omega (arith, suc-mul n w))
+
+pub loop-left-init : goal.loop-left-init
+loop-left-init c = (c.requires, refl)
+
+pub enter-entered-requires : goal.enter-entered-requires
+enter-entered-requires c =
+    let args = c.args in
+    let loop = c.loop-left in
+    omega (arith, first-there loop.place loop.left (width args.head.dims) (length args.bytes.now) c.loop-left-test.true loop.invariant.0)
+
+pub overflow_add-place : goal.overflow_add-place
+overflow_add-place c =
+    let args = c.args in
+    let loop = c.loop-left in
+    let g = first-there loop.place loop.left (width args.head.dims) (length args.bytes.now) c.loop-left-test.true loop.invariant.0 in
+    rw c.width-width.ensures.0 (search rules)
+
+pub loop-left-preserved : goal.loop-left-preserved
+loop-left-preserved c =
+    let args = c.args in
+    let loop = c.loop-left in
+    rw (c.width-width.ensures.0, c.enter-entered.ensures) (
+      first-there loop.place loop.left (width args.head.dims) (length args.bytes.now) c.loop-left-test.true loop.invariant.0,
+      loop.invariant.1 ∙ enter_first args.head args.bytes.now loop.place loop.entered loop.left c.loop-left-test.true,
+    )
+
+pub returns : goal.returns
+returns c =
+    let args = c.args in
+    let loop = c.loop-left in
+    sym (loop.invariant.1 ∙ enter_none args.head args.bytes.now loop.place loop.entered loop.left c.loop-left-test.false)
