@@ -11,9 +11,7 @@ use Rattle.sedona_expr.specs.SpatialFilter.{answer}
 use Rattle.sedona_expr.specs.Tables.{Records, Table, root, Lookup, record_of}
 use Rattle.sedona_expr.specs.Refusals.{refusal}
 use Rattle.sedona_expr.specs.Calls.{outcome, evaluate}
-use Rattle.sedona_expr.specs.declared.statistics.Bbox as Bbox
 use Rattle.sedona_expr.specs.declared.statistics.Bbox.{Bbox}
-use Rattle.sedona_expr.specs.declared.spatial_filter.Evaluation as Evaluation
 use Rattle.sedona_expr.specs.declared.spatial_filter.Evaluation.{Evaluation}
 use Rattle.sedona_expr.proofs.Numbers.{number, of_refusal}
 use Rattle.johikape.specs.Boxes.{yes, test, HasBoth}

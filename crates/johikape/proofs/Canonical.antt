@@ -13,7 +13,6 @@ use Rattle.sedona_geometry.specs.WraparoundInterval as wraparound
 use Rattle.sedona_geometry.specs.BoundingBox as bounding_box
 use Rattle.sedona_geometry.specs.BoundingBox.{Canonical, WhereKnown}
 use Rattle.sedona_geometry.specs.declared.interval.Interval.{Interval}
-use Rattle.sedona_geometry.specs.declared.bounding_box.Dimension as Dimension
 use Rattle.sedona_geometry.specs.declared.bounding_box.Dimension.{Dimension}
 use Rattle.sedona_geometry.specs.declared.bounding_box.BoundingBox.{BoundingBox}
 use Rattle.sedona_geometry.proofs.Canonical as canonical
@@ -22,7 +21,6 @@ use Rattle.sedona_geometry.proofs.Keys.{same_box}
 use Rattle.sedona_expr.specs.Error as error
 use Rattle.sedona_expr.specs.Statistics as statistics
 use Rattle.sedona_expr.specs.Tables as tables
-use Rattle.sedona_expr.specs.declared.statistics.Bbox as Bbox
 use Rattle.sedona_expr.specs.declared.statistics.Bbox.{Bbox}
 use Rattle.sedona_expr.specs.declared.statistics.GeoStatistics.{GeoStatistics}
 use Rattle.sedona_expr.proofs.Canonical.{CanonicalRecord, merge_value_canonical, fold_canonical}

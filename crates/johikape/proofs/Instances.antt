@@ -10,7 +10,6 @@ use Rattle.sedona_geometry.specs.Interval as interval
 use Rattle.sedona_geometry.specs.WraparoundInterval as wraparound
 use Rattle.sedona_geometry.specs.Types.{from_bits}
 use Rattle.sedona_geometry.specs.BoundingBox.{Doubles, Canonical, EqualNumbers, xyzm, test_known, intersects, with_x, intersection}
-use Rattle.sedona_geometry.specs.declared.bounding_box.Dimension as Dimension
 use Rattle.sedona_geometry.specs.declared.bounding_box.Dimension.{Dimension}
 use Rattle.sedona_geometry.specs.declared.bounding_box.BoundingBox.{BoundingBox}
 use Rattle.sedona_geometry.proofs.Canonical.{xyzm_canonical}
@@ -19,15 +18,10 @@ use Rattle.sedona_expr.specs.Statistics as statistics
 use Rattle.sedona_expr.specs.Tables.{box_with, box_at, types_at, table, records, by_position}
 use Rattle.sedona_expr.specs.Refusals.{good_flag, or_else, words_refusal, table_refusal, refusal}
 use Rattle.sedona_expr.specs.Calls.{outcome, evaluate}
-use Rattle.sedona_expr.specs.declared.spatial_filter.Evaluation as Evaluation
 use Rattle.sedona_expr.specs.declared.spatial_filter.Evaluation.{Evaluation}
-use Rattle.sedona_expr.specs.declared.statistics.Bbox as Bbox
 use Rattle.sedona_expr.specs.declared.statistics.Bbox.{Bbox}
-use Rattle.sedona_expr.specs.declared.statistics.GeometryTypes as GeometryTypes
 use Rattle.sedona_expr.specs.declared.statistics.GeometryTypes.{GeometryTypes}
-use Rattle.sedona_expr.specs.declared.statistics.Total as Total
 use Rattle.sedona_expr.specs.declared.statistics.Total.{Total}
-use Rattle.sedona_expr.specs.declared.statistics.Extent as Extent
 use Rattle.sedona_expr.specs.declared.statistics.Extent.{Extent}
 use Rattle.sedona_expr.specs.declared.statistics.GeoStatistics.{GeoStatistics}
 use Rattle.sedona_expr.proofs.Instances.{reading}

@@ -10,7 +10,6 @@ use borrow.Author.Tests.{eq-eqb, ne_eqb}
 use lib.ListN.{get_or}
 use lib.Ieee.{Float}
 use Rattle.sedona_geometry.specs.BoundingBox.{Canonical, plus_zero}
-use Rattle.sedona_geometry.specs.declared.bounding_box.Dimension as Dimension
 use Rattle.sedona_geometry.specs.declared.bounding_box.Dimension.{Dimension}
 use Rattle.sedona_geometry.specs.declared.bounding_box.BoundingBox.{BoundingBox}
 use Rattle.sedona_geometry.proofs.Canonical.{stays_box}
@@ -20,13 +19,9 @@ use Rattle.sedona_expr.proofs.Canonical.{stays_record}
 use Rattle.sedona_geometry.specs.Bits.{has_bit}
 use Rattle.sedona_expr.specs.Tables.{flag_limit, boxes, box_with, box_at}
 use Rattle.sedona_expr.specs.Refusals.{good_flag}
-use Rattle.sedona_expr.specs.declared.statistics.Bbox as Bbox
 use Rattle.sedona_expr.specs.declared.statistics.Bbox.{Bbox}
-use Rattle.sedona_expr.specs.declared.statistics.GeometryTypes as GeometryTypes
 use Rattle.sedona_expr.specs.declared.statistics.GeometryTypes.{GeometryTypes}
-use Rattle.sedona_expr.specs.declared.statistics.Total as Total
 use Rattle.sedona_expr.specs.declared.statistics.Total.{Total}
-use Rattle.sedona_expr.specs.declared.statistics.Extent as Extent
 use Rattle.sedona_expr.specs.declared.statistics.Extent.{Extent}
 use Rattle.sedona_expr.specs.declared.statistics.GeoStatistics.{GeoStatistics}
 use Rattle.johikape.specs.Boxes as box

@@ -3,14 +3,12 @@ use Rattle.std.specs.Prelude.{◌≡◌, Bool, false, cond, List, [], ◌∷◌,
 use Rattle.std.specs.Float.{binary64}
 use Rattle.std.specs.Float.Ieee.{of_bits}
 use Rattle.sedona_geometry.specs.BoundingBox as bounding_box
-use Rattle.sedona_geometry.specs.declared.bounding_box.Dimension as Dimension
 use Rattle.sedona_geometry.specs.declared.bounding_box.Dimension.{Dimension}
 use Rattle.sedona_geometry.specs.declared.bounding_box.BoundingBox.{BoundingBox}
 use Rattle.sedona_geometry.specs.declared.bounding_box.NumberedBox.{NumberedBox}
 use Rattle.sedona_expr.specs.Error as error
 use Rattle.sedona_expr.specs.Tables.{boxes, box_at}
 use Rattle.sedona_expr.specs.Refusals.{good_flag}
-use Rattle.sedona_expr.specs.declared.statistics.Bbox as Bbox
 use Rattle.sedona_expr.specs.declared.statistics.Bbox.{Bbox}
 
 -- ---- from C

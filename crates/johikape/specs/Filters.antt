@@ -1,7 +1,6 @@
 -- How the answers of a filter and of a search cross.
 use Rattle.std.specs.Prelude.{Bool, cond, ℕ, eqb}
 use Rattle.sedona_expr.specs.declared.names.NameSearch.{NameSearch}
-use Rattle.sedona_expr.specs.declared.spatial_filter.Evaluation as Evaluation
 use Rattle.sedona_expr.specs.declared.spatial_filter.Evaluation.{Evaluation}
 
 -- 0 cannot match, 1 may match, else the number that refuses it: none is 0 or 1.

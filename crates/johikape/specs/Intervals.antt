@@ -4,7 +4,6 @@ use Rattle.sedona_geometry.specs.Interval as interval
 use Rattle.sedona_geometry.specs.WraparoundInterval as wraparound
 use Rattle.sedona_geometry.specs.declared.interval.Interval.{Interval}
 use Rattle.sedona_geometry.specs.declared.interval.WraparoundInterval.{WraparoundInterval}
-use Rattle.sedona_geometry.specs.declared.interval.Intersection as Intersection
 use Rattle.sedona_geometry.specs.declared.interval.Intersection.{Intersection}
 use Rattle.johikape.specs.declared.intervals.JohikapeInterval.{JohikapeInterval}
 

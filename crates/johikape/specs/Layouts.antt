@@ -3,7 +3,6 @@ use Rattle.std.specs.Prelude.{◌≡◌, List, ℕ, Float}
 use Rattle.geoparquet_bbox.specs.Layout as layout
 use Rattle.geoparquet_bbox.specs.declared.layout.NumberedArray.{NumberedArray}
 use Rattle.sedona_expr.specs.Error as error
-use Rattle.sedona_expr.specs.declared.statistics.Bbox as Bbox
 use Rattle.sedona_expr.specs.declared.statistics.Bbox.{Bbox}
 use Rattle.johikape.specs.Boxes.{unless_refused}
 

@@ -1,9 +1,0 @@
--- `johikape_interval_merge_value` meets its contract. Assumes nothing.
-use Rattle.johikape.proofs.intervals.johikape_interval_merge_value.Statement.{statement}
-use Rattle.johikape.proofs.intervals.johikape_interval_merge_value.Tie as tie
-
-returns : tie.Need-returns
-returns c = rw (c.ends.ensures, c.before.merge-value.ensures, c.before.before.plain.ensures)
-
-pub johikape-interval-merge-value-spec : {M : Type 1} → statement M
-johikape-interval-merge-value-spec = tie.close (tie.spec (λ c κs. tt) (λ c κs. tt) (λ c κs. tt) returns)

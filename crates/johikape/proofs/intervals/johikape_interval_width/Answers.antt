@@ -1,0 +1,5 @@
+-- `johikape_interval_width` meets its contract. Assumes nothing.
+use Rattle.johikape.proofs.intervals.johikape_interval_width.Goals as goal
+
+pub returns : goal.returns
+returns c = rw (c.width.ensures, c.plain.ensures)

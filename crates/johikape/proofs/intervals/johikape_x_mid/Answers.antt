@@ -1,0 +1,5 @@
+-- `johikape_x_mid` meets its contract. Assumes nothing.
+use Rattle.johikape.proofs.intervals.johikape_x_mid.Goals as goal
+
+pub returns : goal.returns
+returns c = rw (c.mid.ensures, c.x.ensures)
