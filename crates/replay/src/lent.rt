@@ -1,5 +1,4 @@
-// The calls that borrow records or sizes, on some that are lent to them here. The forms are those of the
-// walks in proofs/ and in replay_geometry's, a step to a line.
+// The calls that borrow records or sizes, on some that are lent to them here.
 ghost use Rattle.std.specs.Prelude.{◌≡◌, ◌%◌, ◌≤◌, take};
 ghost use Rattle.sedona_expr.specs.Statistics as statistics;
 ghost use Rattle.scan_tariff.specs.Tariff as tariff;

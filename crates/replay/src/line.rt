@@ -10,7 +10,6 @@ use crate::records::put_call_of_records;
 use crate::tables::Nodes;
 use crate::tariff::put_call_of_tariff;
 use crate::wkb::put_call_of_wkb;
-use bytes::scan::find;
 use check::same;
 use replay_geometry::answer::put_answer;
 use replay_geometry::calls::answer_to;
@@ -18,6 +17,7 @@ use replay_geometry::names as geometry;
 use replay_geometry::names::Call;
 use replay_text::digest::put_swept;
 use replay_text::output::{Buffer, put, put_all};
+use replay_text::scan::find;
 use replay_text::words::{Words, read_words};
 
 // The room for a line. One that fills it is too long, and no case.
@@ -69,7 +69,7 @@ fn take_case(
     out: &mut Buffer,
     filled: usize,
 ) -> Outcome {
-    let end = find(line, 0, line.len(), b' ');
+    let end = find(line, 0, b' ');
     let first = &line[0..end];
     let words = read_words(line, end);
     let setting = setting_named(first);

@@ -16,9 +16,9 @@ mod tariff;
 mod wkb;
 
 use kept::Kept;
-use libc::STDIN_FILENO;
 use line::{Line, SIZE, push, take_line};
 use replay_text::output::{Buffer, flush, put};
+use std::io::{Error, Read, Result, Stdin};
 use tables::{MOST_NODE_WORDS, Nodes};
 
 // What is kept from one byte of the input to the next.
@@ -32,6 +32,8 @@ struct State {
     filled: usize,
     // Whether the input has ended.
     is_over: bool,
+    // Of a read that failed. It ends the input too.
+    failure: Option<Error>,
 }
 
 impl State {
@@ -42,44 +44,62 @@ impl State {
             length: 0,
             filled: 0,
             is_over: false,
+            failure: None,
         }
     }
 }
 
 // Has the buffers that the rest borrows.
-fn main() {
+fn main(rt: HostRuntime) -> Result<()> {
     let mut line = [0u8; SIZE];
-    let mut out = io::large_buffer();
+    let mut out = Buffer::new(rt.stdout());
     let mut nodes = [0; MOST_NODE_WORDS];
-    run(&mut line, &mut out, &mut nodes);
+    run(rt.stdin(), &mut line, &mut out, &mut nodes)
 }
 
-// Takes the whole input. Nothing says that it ends, and a proved loop has to: so the loop counts
-// its turns down, from a number that no run uses up.
-fn run(line: &mut Line, out: &mut Buffer, nodes: &mut Nodes) {
+// Takes the whole input. Nothing says that it ends, and a proved loop has to: so the loop has a number of
+// turns that no run uses up. What was answered is written out before a failure of the input is told.
+fn run(stdin: Stdin, line: &mut Line, out: &mut Buffer, nodes: &mut Nodes) -> Result<()> {
     let mut state = State::new();
-    let mut turns = u64::MAX;
-    while turns > 0 && !state.is_over {
-        state = take_chunk(state, line, out, nodes);
-        turns -= 1;
+    for _ in 0..u64::MAX {
+        if state.is_over {
+            break;
+        }
+        state = take_chunk(state, stdin, line, out, nodes);
     }
     if state.length > 0 {
         state = end_line(state, line, out, nodes);
     }
-    flush(out, state.filled);
+    flush(out, state.filled)?;
+    match state.failure {
+        Some(failure) => Err(failure),
+        None => Ok(()),
+    }
 }
 
 // Reads once, and takes what came.
-fn take_chunk(before: State, line: &mut Line, out: &mut Buffer, nodes: &mut Nodes) -> State {
+fn take_chunk(
+    before: State,
+    mut stdin: Stdin,
+    line: &mut Line,
+    out: &mut Buffer,
+    nodes: &mut Nodes,
+) -> State {
     let mut chunk = io::large_buffer();
-    let got = libc::read(STDIN_FILENO, &mut chunk);
-    let count = io::count(got, &chunk);
-    if count == 0 {
-        let mut state = before;
-        state.is_over = true;
-        return state;
+    match stdin.read(&mut chunk) {
+        Ok(0) => {
+            let mut state = before;
+            state.is_over = true;
+            state
+        }
+        Ok(count) => take_bytes(&chunk[..count], before, line, out, nodes),
+        Err(failure) => {
+            let mut state = before;
+            state.is_over = true;
+            state.failure = Some(failure);
+            state
+        }
     }
-    take_bytes(&chunk[..count], before, line, out, nodes)
 }
 
 // Copies the bytes, and replies to each line that they end.
@@ -112,5 +132,6 @@ fn end_line(before: State, line: &Line, out: &mut Buffer, nodes: &mut Nodes) -> 
         length: 0,
         filled: put(out, outcome.filled, b'\n'),
         is_over: before.is_over,
+        failure: before.failure,
     }
 }

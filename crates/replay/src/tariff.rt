@@ -3,10 +3,10 @@
 use crate::lent::{MOST_SIZES, fee};
 use crate::names::{FEE_OF_RECORD, FEE_OF_SIZES};
 use crate::records::{are_records, first_record, total_at};
-use bytes::scan::find;
 use replay_geometry::names::Call;
 use replay_text::output::{Buffer, put, put_decimal};
 use replay_text::read::{TypeSet, read_set};
+use replay_text::scan::find;
 use replay_text::words::{MOST_WORDS, Words, read_words};
 use scan_tariff::tariff::{Fee, Rates, fee_of_record};
 use sedona_expr::statistics::Total;
@@ -66,7 +66,7 @@ fn number_at(rest: &[u8], at: usize) -> Number {
             end: at,
         };
     }
-    let end = find(rest, at + 1, rest.len(), b' ');
+    let end = find(rest, at + 1, b' ');
     let TypeSet::Bits(value) = read_set(&rest[at + 1..end]) else {
         return Number {
             is_good: false,

@@ -2,10 +2,10 @@
 // for more than a line can spell.
 use crate::filters::put_numbered;
 use crate::names::WKB_BOUNDS;
-use bytes::scan::find;
 use replay_geometry::names::Call;
 use replay_text::output::{Buffer, put, put_decimal};
 use replay_text::read::{Bytes, MOST_BYTES, TypeSet, read_bytes, read_set};
+use replay_text::scan::find;
 use sedona_wkb::bounds::{WkbBounds, wkb_bounds};
 
 // Puts what the call answers to the rest of a line: digits, or how many bytes there are and digits.
@@ -18,7 +18,7 @@ pub fn put_call_of_wkb(out: &mut Buffer, filled: usize, call: Call, rest: &[u8])
     if rest.len() == 0 {
         return put(out, filled, b'?');
     }
-    let end = find(rest, 1, rest.len(), b' ');
+    let end = find(rest, 1, b' ');
     let TypeSet::Bits(count) = read_set(&rest[1..end]) else {
         return put(out, filled, b'?');
     };

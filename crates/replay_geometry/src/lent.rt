@@ -1,5 +1,4 @@
-// The call that borrows a box, on a box that is lent to it here. The form is that of the walk in
-// proofs/, a step to a line.
+// The call that borrows a box, on a box that is lent to it here.
 ghost use Rattle.std.specs.Prelude.{◌≡◌};
 ghost use Rattle.sedona_geometry.specs.BoundingBox.{update_box};
 

@@ -1,7 +1,7 @@
 // The names of the calls of sedona_geometry, and what each takes.
 use crate::boxes::{BOX, TWO_BOXES};
-use bytes::scan::find;
 use check::same;
+use replay_text::scan::find;
 
 // What a call is of: the part of its name up to the `::`.
 pub(crate) const NOTHING: u8 = 0;
@@ -144,7 +144,7 @@ impl Call {
 
 // The call that a word names.
 pub fn call_named(word: &[u8]) -> Call {
-    let colon = find(word, 0, word.len(), b':');
+    let colon = find(word, 0, b':');
     if word.len() - colon < 2 {
         return Call::unknown(NOTHING);
     }

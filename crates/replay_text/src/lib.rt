@@ -4,5 +4,6 @@
 pub mod digest;
 pub mod output;
 pub mod read;
+pub mod scan;
 pub mod words;
 pub mod write;

@@ -3,7 +3,7 @@
 // bytes: hex digits.
 ghost use Rattle.std.specs.Prelude.{◌≤◌};
 
-use bytes::scan::find;
+use crate::scan::find;
 use check::same;
 
 // The largest integer of a case. Up to here every integer is a double.
@@ -83,7 +83,7 @@ fn read_magnitude(word: &[u8]) -> Reading {
     if same(word, b"inf") {
         return Reading::Double(1.0 / 0.0);
     }
-    let slash = find(word, 0, word.len(), b'/');
+    let slash = find(word, 0, b'/');
     if slash == word.len() {
         return read_integer(word);
     }

@@ -1,6 +1,6 @@
 // The words of a line, and lists of them.
 use crate::read::{Reading, TypeSet, WholeTotal, read_double, read_set, read_total};
-use bytes::scan::find;
+use crate::scan::find;
 use check::same;
 
 // The most words that a line can have behind its first.
@@ -136,7 +136,7 @@ pub fn read_words(line: &[u8], end_of_first: usize) -> Words {
     let mut words = Words::none();
     let mut at = end_of_first;
     while at < line.len() {
-        let end = find(line, at + 1, line.len(), b' ');
+        let end = find(line, at + 1, b' ');
         words = words.with(&line[at + 1..end]);
         at = end;
     }

@@ -1,3 +1,0 @@
-pub mod ArrayKind
-pub mod LendsFirst
-pub mod LendsFirstWith
