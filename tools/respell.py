@@ -23,7 +23,11 @@ BY_HAND = {
     "crates/sedona_expr/specs/Tables.antt": [
         ("lookup by_name ns = cond by_name (byName ns) byPosition", "lookup is_by_name ns = cond is_by_name (byName ns) byPosition"),
     ],
-    "crates/sedona_expr/proofs/WantedRow.antt": [("pub by_name :", "pub by_name_lem :"), ("by_name =", "by_name_lem =")],
+    "crates/sedona_expr/proofs/WantedRow.antt": [
+        ("pub by_name :", "pub by_name_lem :"), ("by_name =", "by_name_lem ="),
+        ("abbrev minus-zero :", "abbrev minus_zero :"), ("\nminus-zero =", "\nminus_zero ="),
+        ("lo = minus-zero; hi = minus-zero", "lo = minus_zero; hi = minus_zero"),
+    ],
 }
 # Lemmas with a dash that would fall together with a definition: they end in `_lem`.
 LEMMAS = set()

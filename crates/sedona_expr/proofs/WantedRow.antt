@@ -36,8 +36,8 @@ use Rattle.sedona_expr.proofs.Demand3.{demand-3}
 abbrev plus : ℕ → Float
 plus n = of_int binary64 (pos n)
 
-abbrev minus_zero_lem : Float
-minus_zero_lem = fin true 0 (pos 0)
+abbrev minus_zero : Float
+minus_zero = fin true 0 (pos 0)
 
 -- A box of x and y.
 abbrev flat : Float → Float → Float → Float → BoundingBox
@@ -252,7 +252,7 @@ a_wrapped_literal = (demand-3 by_position wrapped_table wrapped_fold wrapped_row
 
 -- ---- a row that lies at −0. Its record comes to the list through a fold of its own, which gives +0
 abbrev signed : Bbox
-signed = Bbox.Known (record { x = record { inner = record { lo = minus_zero_lem; hi = minus_zero_lem } }; y = record { lo = minus_zero_lem; hi = minus_zero_lem }; z = Dimension.Missing; m = Dimension.Missing })
+signed = Bbox.Known (record { x = record { inner = record { lo = minus_zero; hi = minus_zero } }; y = record { lo = minus_zero; hi = minus_zero }; z = Dimension.Missing; m = Dimension.Missing })
 
 abbrev signed_row : Row
 signed_row n = record { bbox = signed; bit = 1 }
