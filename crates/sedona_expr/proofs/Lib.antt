@@ -17,6 +17,7 @@ pub mod Searches
 pub mod StraightBoxes
 pub mod Theorems
 pub mod Trees
+pub mod Turns
 pub mod Twice
 pub mod WantedRow
 pub mod Whole

@@ -11,9 +11,9 @@ pub returns-then-names-i : goal.returns-then-names-i
 returns-then-names-i c =
     let args = c.args in
     let loop = c.loop-i in
-    let loop-test = c.loop-i-test in
+    let loop_test = c.loop-i-test in
     let if1 = c.if-names-i in
-    sym (loop.invariant.1 ∙ find_hit args.names.now loop.i args.name loop-test.true if1.true)
+    sym (loop.invariant.1 ∙ find_hit args.names.now loop.i args.name loop_test.true if1.true)
 
 pub loop-i-smaller : goal.loop-i-smaller
 loop-i-smaller c = omega arith
@@ -22,9 +22,9 @@ pub loop-i-preserved : goal.loop-i-preserved
 loop-i-preserved c =
     let args = c.args in
     let loop = c.loop-i in
-    let loop-test = c.loop-i-test in
+    let loop_test = c.loop-i-test in
     let if1 = c.if-names-i in
-    (omega arith, loop.invariant.1 ∙ find_next args.names.now loop.i args.name loop-test.true if1.false)
+    (omega arith, loop.invariant.1 ∙ find_next args.names.now loop.i args.name loop_test.true if1.false)
 
 pub returns : goal.returns
 returns c =

@@ -18,18 +18,18 @@ pub comes_again-requires : goal.comes_again-requires
 comes_again-requires c =
     let args = c.args in
     let loop = c.loop-i in
-    let loop-test = c.loop-i-test in (
-      loop-test.true,
-      λ e. clear_is_new word bit loop.marks args.names.now loop.i loop-test.true loop.invariant.1.1.1 (rw c.mark_of-mark.ensures at (sym c.has_bit.ensures ∙ e)),
+    let loop_test = c.loop-i-test in (
+      loop_test.true,
+      λ e. clear_is_new word bit loop.marks args.names.now loop.i loop_test.true loop.invariant.1.1.1 (rw c.mark_of-mark.ensures at (sym c.has_bit.ensures ∙ e)),
     )
 
 pub returns-then-comes_again : goal.returns-then-comes_again
 returns-then-comes_again c =
     let args = c.args in
     let loop = c.loop-i in
-    let loop-test = c.loop-i-test in
-    let comes-again = c.comes_again in
-    sym (hit_before args.names.now loop.i loop-test.true (sym comes-again.ensures ∙ c.if-comes_again.true))
+    let loop_test = c.loop-i-test in
+    let comes_again = c.comes_again in
+    sym (hit_before args.names.now loop.i loop_test.true (sym comes_again.ensures ∙ c.if-comes_again.true))
 
 pub loop-i-smaller : goal.loop-i-smaller
 loop-i-smaller c = omega arith
@@ -38,8 +38,8 @@ pub loop-i-preserved : goal.loop-i-preserved
 loop-i-preserved c =
     let args = c.args in
     let loop = c.loop-i in
-    let loop-test = c.loop-i-test in
-    let comes-again = c.comes_again in
+    let loop_test = c.loop-i-test in
+    let comes_again = c.comes_again in
     let mark_of = c.mark_of-mark in
     let name : ℕ = get_or args.names.now loop.i 0 in
     rw (c.with_bit.ensures, mark_of.ensures) (
@@ -47,7 +47,7 @@ loop-i-preserved c =
       (
         length-set loop.marks (word name) (with_bit (get_or loop.marks (word name) 0) (bit name)) ∙ loop.invariant.1.0,
         (
-          differ_next args.names.now loop.i loop.invariant.1.1.0 (none_before args.names.now loop.i loop-test.true (sym comes-again.ensures ∙ c.if-comes_again.false)),
+          differ_next args.names.now loop.i loop.invariant.1.1.0 (none_before args.names.now loop.i loop_test.true (sym comes_again.ensures ∙ c.if-comes_again.false)),
           mark_next word bit loop.marks args.names.now loop.i (omega (arith, loop.invariant.1.0)) loop.invariant.1.1.1,
         ),
       ),

@@ -11,8 +11,8 @@ pub returns-then-comes_before : goal.returns-then-comes_before
 returns-then-comes_before c =
     let args = c.args in
     let loop = c.loop-i in
-    let comes-before = c.comes_before in
-    sym (hit_before args.names.now loop.i c.loop-i-test.true (sym comes-before.ensures ∙ c.if-comes_before.true))
+    let comes_before = c.comes_before in
+    sym (hit_before args.names.now loop.i c.loop-i-test.true (sym comes_before.ensures ∙ c.if-comes_before.true))
 
 pub loop-i-smaller : goal.loop-i-smaller
 loop-i-smaller c = omega arith
@@ -21,9 +21,9 @@ pub loop-i-preserved : goal.loop-i-preserved
 loop-i-preserved c =
     let args = c.args in
     let loop = c.loop-i in
-    let loop-test = c.loop-i-test in
-    let comes-before = c.comes_before in
-    (omega arith, differ_next args.names.now loop.i loop.invariant.1 (none_before args.names.now loop.i loop-test.true (sym comes-before.ensures ∙ c.if-comes_before.false)))
+    let loop_test = c.loop-i-test in
+    let comes_before = c.comes_before in
+    (omega arith, differ_next args.names.now loop.i loop.invariant.1 (none_before args.names.now loop.i loop_test.true (sym comes_before.ensures ∙ c.if-comes_before.false)))
 
 pub returns : goal.returns
 returns c =

@@ -15,8 +15,8 @@ pub loop-i-preserved : goal.loop-i-preserved
 loop-i-preserved c =
     let args = c.args in
     let loop = c.loop-i in
-    let loop-test = c.loop-i-test in
-    (omega arith, rw c.is_good_flag-good.ensures (all_more (good_flag args.none) args.flags.now loop.i 0 loop.good loop-test.true loop.invariant.1))
+    let loop_test = c.loop-i-test in
+    (omega arith, rw c.is_good_flag-good.ensures (all_more (good_flag args.none) args.flags.now loop.i 0 loop.good loop_test.true loop.invariant.1))
 
 pub returns : goal.returns
 returns c =

@@ -18,9 +18,9 @@ pub returns-then-marks-i-ne1 : goal.returns-then-marks-i-ne1
 returns-then-marks-i-ne1 c =
     let args = c.args in
     let loop = c.loop-i in
-    let loop-test = c.loop-i-test in
+    let loop_test = c.loop-i-test in
     let if1 = c.if-marks-i-ne1 in
-    sym (loop.invariant.1 ∙ below_not (λ m. eqb (get_or args.marks.now m 0) 1) loop.i loop-test.true (ne_eqb (get_or args.marks.now (loop.i - 1) 0) 1 if1.true))
+    sym (loop.invariant.1 ∙ below_not (λ m. eqb (get_or args.marks.now m 0) 1) loop.i loop_test.true (ne_eqb (get_or args.marks.now (loop.i - 1) 0) 1 if1.true))
 
 pub loop-i-smaller : goal.loop-i-smaller
 loop-i-smaller c = omega arith
@@ -29,9 +29,9 @@ pub loop-i-preserved : goal.loop-i-preserved
 loop-i-preserved c =
     let args = c.args in
     let loop = c.loop-i in
-    let loop-test = c.loop-i-test in
+    let loop_test = c.loop-i-test in
     let if1 = c.if-marks-i-ne1 in
-    (omega arith, loop.invariant.1 ∙ below_so (λ m. eqb (get_or args.marks.now m 0) 1) loop.i loop-test.true (eq-eqb (get_or args.marks.now (loop.i - 1) 0) 1 if1.false))
+    (omega arith, loop.invariant.1 ∙ below_so (λ m. eqb (get_or args.marks.now m 0) 1) loop.i loop_test.true (eq-eqb (get_or args.marks.now (loop.i - 1) 0) 1 if1.false))
 
 pub returns : goal.returns
 returns c = sym (c.loop-i.invariant.1 ∙ below_none (λ m. eqb (get_or c.args.marks.now m 0) 1) c.loop-i.i c.loop-i-test.false)

@@ -11,8 +11,8 @@ returns-then-number-ne0 c = or_else_stop _ c.table_refusal-number.ensures c.if-n
 pub tree_refusal-requires : goal.tree_refusal-requires
 tree_refusal-requires c =
     let args = c.args in
-    let table-refusal = c.table_refusal-number in
-    table_pass (table args.nodes.now args.literals.now args.literal_flags.now) table-refusal.result table-refusal.ensures c.if-number-ne0.false
+    let table_refusal = c.table_refusal-number in
+    table_pass (table args.nodes.now args.literals.now args.literal_flags.now) table_refusal.result table_refusal.ensures c.if-number-ne0.false
 
 pub returns : goal.returns
 unfolding box_refusal

@@ -17,10 +17,10 @@ returns-then-is_pair c =
     let word = c.word-kind in
     let if1 = c.if-kind-gt-LAST_KIND in
     let if2 = c.if-kind-eq-HAS_Z in
-    let is-pair = c.is_pair in
+    let is_pair = c.is_pair in
     let if3 = c.if-is_pair in
-    let pair-refusal = c.pair_refusal in
-    rw (pair-refusal.ensures, ← word.ensures, le-ltb _ _ if1.false, ne_eqb _ _ if2.false, ← is-pair.ensures, if3.true)
+    let pair_refusal = c.pair_refusal in
+    rw (pair_refusal.ensures, ← word.ensures, le-ltb _ _ if1.false, ne_eqb _ _ if2.false, ← is_pair.ensures, if3.true)
 
 pub returns-then-is_leaf : goal.returns-then-is_leaf
 unfolding node_refusal
@@ -28,12 +28,12 @@ returns-then-is_leaf c =
     let word = c.word-kind in
     let if1 = c.if-kind-gt-LAST_KIND in
     let if2 = c.if-kind-eq-HAS_Z in
-    let is-pair = c.is_pair in
+    let is_pair = c.is_pair in
     let if3 = c.if-is_pair in
     let is_IsLeaf = c.is_leaf in
     let if4 = c.if-is_leaf in
-    let leaf-refusal = c.leaf_refusal in
-    rw (leaf-refusal.ensures, ← word.ensures, le-ltb _ _ if1.false, ne_eqb _ _ if2.false, ← is-pair.ensures, if3.false, ← is_IsLeaf.ensures, if4.true)
+    let leaf_refusal = c.leaf_refusal in
+    rw (leaf_refusal.ensures, ← word.ensures, le-ltb _ _ if1.false, ne_eqb _ _ if2.false, ← is_pair.ensures, if3.false, ← is_IsLeaf.ensures, if4.true)
 
 pub returns : goal.returns
 unfolding node_refusal
@@ -41,8 +41,8 @@ returns c =
     let word = c.word-kind in
     let if1 = c.if-kind-gt-LAST_KIND in
     let if2 = c.if-kind-eq-HAS_Z in
-    let is-pair = c.is_pair in
+    let is_pair = c.is_pair in
     let if3 = c.if-is_pair in
     let is_IsLeaf = c.is_leaf in
     let if4 = c.if-is_leaf in
-    rw (← word.ensures, le-ltb _ _ if1.false, ne_eqb _ _ if2.false, ← is-pair.ensures, if3.false, ← is_IsLeaf.ensures, if4.false)
+    rw (← word.ensures, le-ltb _ _ if1.false, ne_eqb _ _ if2.false, ← is_pair.ensures, if3.false, ← is_IsLeaf.ensures, if4.false)

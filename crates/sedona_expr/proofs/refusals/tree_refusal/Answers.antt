@@ -17,10 +17,10 @@ use Rattle.sedona_expr.proofs.Marks.{marks_small, uses_next, marks_count_uses}
 use Rattle.sedona_expr.proofs.refusals.tree_refusal.Goals as goal
 
 -- where nothing refuses the nodes, the marks tell
-marks-tell : (ns ms : List ℕ) (lent : Lent) (n : ℕ) → n ≤ count ns → count ns ≤ n → length ns ≤ 4096 → nodes_refusal ns lent n ≡ 0
+marks_tell : (ns ms : List ℕ) (lent : Lent) (n : ℕ) → n ≤ count ns → count ns ≤ n → length ns ≤ 4096 → nodes_refusal ns lent n ≡ 0
     → Counted ms (uses ns n) → refuse_if (not (all_below (λ m. eqb (get_or ms m 0) 1) (count ns - 1))) error.bad_tree ≡ tree_refusal ns lent
 unfolding tree_refusal uses_refusal
-marks-tell ns ms lent n h k l z c = or_else_next refl (subst (λ (m : ℕ). nodes_refusal ns lent m ≡ 0) (le_antisymm h k) z) (rw (marks_count_uses ns ms n h k l c))
+marks_tell ns ms lent n h k l z c = or_else_next refl (subst (λ (m : ℕ). nodes_refusal ns lent m ≡ 0) (le_antisymm h k) z) (rw (marks_count_uses ns ms n h k l c))
 
 pub returns-then-count-eq1 : goal.returns-then-count-eq1
 returns-then-count-eq1 c =
@@ -69,9 +69,9 @@ are_once-requires c = omega (arith, c.requires.1)
 pub returns-then-are_once : goal.returns-then-are_once
 returns-then-are_once c =
     let loop = c.loop-node in
-    rw (← c.are_once.ensures, c.if-are_once.true) at (marks-tell c.args.nodes.now loop.marks c.args.lent loop.node loop.invariant.0 c.loop-node-test.false c.requires.1 loop.invariant.1.0 loop.invariant.1.1)
+    rw (← c.are_once.ensures, c.if-are_once.true) at (marks_tell c.args.nodes.now loop.marks c.args.lent loop.node loop.invariant.0 c.loop-node-test.false c.requires.1 loop.invariant.1.0 loop.invariant.1.1)
 
 pub returns-else-are_once : goal.returns-else-are_once
 returns-else-are_once c =
     let loop = c.loop-node in
-    rw (← c.are_once.ensures, c.if-are_once.false) at (marks-tell c.args.nodes.now loop.marks c.args.lent loop.node loop.invariant.0 c.loop-node-test.false c.requires.1 loop.invariant.1.0 loop.invariant.1.1)
+    rw (← c.are_once.ensures, c.if-are_once.false) at (marks_tell c.args.nodes.now loop.marks c.args.lent loop.node loop.invariant.0 c.loop-node-test.false c.requires.1 loop.invariant.1.0 loop.invariant.1.1)

@@ -13,23 +13,23 @@ returns-then-number-ne0 c = rw (← c.box_refusal-number.ensures, ne_eqb c.box_r
 pub overflow_sub-root : goal.overflow_sub-root
 overflow_sub-root c =
     let args = c.args in
-    let box-refusal = c.box_refusal-number in
+    let box_refusal = c.box_refusal-number in
     let if1 = c.if-number-ne0 in
-    (box_refusal_pass (table args.nodes.now args.literals.now args.literal_flags.now) box-refusal.result box-refusal.ensures if1.false).0
+    (box_refusal_pass (table args.nodes.now args.literals.now args.literal_flags.now) box_refusal.result box_refusal.ensures if1.false).0
 
 pub overflow_cast-root : goal.overflow_cast-root
 overflow_cast-root c =
     let args = c.args in
-    let box-refusal = c.box_refusal-number in
+    let box_refusal = c.box_refusal-number in
     let if1 = c.if-number-ne0 in
-    record { fits = omega (arith, (box_refusal_pass (table args.nodes.now args.literals.now args.literal_flags.now) box-refusal.result box-refusal.ensures if1.false).1) }
+    record { fits = omega (arith, (box_refusal_pass (table args.nodes.now args.literals.now args.literal_flags.now) box_refusal.result box_refusal.ensures if1.false).1) }
 
 pub box_for-requires : goal.box_for-requires
 box_for-requires c =
     let args = c.args in
-    let box-refusal = c.box_refusal-number in
+    let box_refusal = c.box_refusal-number in
     let if1 = c.if-number-ne0 in
-    omega (arith, (box_refusal_pass (table args.nodes.now args.literals.now args.literal_flags.now) box-refusal.result box-refusal.ensures if1.false).0)
+    omega (arith, (box_refusal_pass (table args.nodes.now args.literals.now args.literal_flags.now) box_refusal.result box_refusal.ensures if1.false).0)
 
 pub returns : goal.returns
 unfolding numbered

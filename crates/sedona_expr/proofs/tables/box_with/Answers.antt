@@ -5,12 +5,12 @@ use Rattle.sedona_expr.proofs.tables.box_with.Goals as goal
 pub returns : goal.returns
 unfolding box_with
 returns c =
-    let interval-at = c.interval_at-x in
-    let interval-at2 = c.interval_at-y in
-    let interval-at3 = c.interval_at-z in
-    let interval-at4 = c.interval_at-m in
-    let from-interval = c.from_interval in
+    let interval_at = c.interval_at-x in
+    let interval_at2 = c.interval_at-y in
+    let interval_at3 = c.interval_at-z in
+    let interval_at4 = c.interval_at-m in
+    let from_interval = c.from_interval in
     let known_where_lem = c.known_where in
-    let known-where2 = c.known_where-2 in
+    let known_where2 = c.known_where-2 in
     let xyzm = c.xyzm in
-    rw (xyzm.ensures, known-where2.ensures, known_where_lem.ensures, from-interval.ensures, interval-at4.ensures, interval-at3.ensures, interval-at2.ensures, interval-at.ensures)
+    rw (xyzm.ensures, known_where2.ensures, known_where_lem.ensures, from_interval.ensures, interval_at4.ensures, interval_at3.ensures, interval_at2.ensures, interval_at.ensures)

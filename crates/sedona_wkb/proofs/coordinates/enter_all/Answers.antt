@@ -10,9 +10,9 @@ use Rattle.sedona_wkb.proofs.Readers.{enter_first, enter_none}
 use Rattle.sedona_wkb.proofs.coordinates.enter_all.Goals as goal
 
 -- The first of those that are left is there, and then the others.
-first-there : (place n w len : ℕ) → 0 < n → place + n * w ≤ len → place + w + (n - 1) * w ≤ len
-first-there place zero w len z g = absurd (omega arith)
-first-there place (suc n) w len z g = let m : suc n - 1 ≡ n = omega arith in rw m (omega (arith, suc-mul n w))
+first_there : (place n w len : ℕ) → 0 < n → place + n * w ≤ len → place + w + (n - 1) * w ≤ len
+first_there place zero w len z g = absurd (omega arith)
+first_there place (suc n) w len z g = let m : suc n - 1 ≡ n = omega arith in rw m (omega (arith, suc-mul n w))
 
 pub loop-left-init : goal.loop-left-init
 loop-left-init c = (c.requires, refl)
@@ -21,13 +21,13 @@ pub enter-entered-requires : goal.enter-entered-requires
 enter-entered-requires c =
     let args = c.args in
     let loop = c.loop-left in
-    omega (arith, first-there loop.place loop.left (width args.head.dims) (length args.bytes.now) c.loop-left-test.true loop.invariant.0)
+    omega (arith, first_there loop.place loop.left (width args.head.dims) (length args.bytes.now) c.loop-left-test.true loop.invariant.0)
 
 pub overflow_add-place : goal.overflow_add-place
 overflow_add-place c =
     let args = c.args in
     let loop = c.loop-left in
-    let g = first-there loop.place loop.left (width args.head.dims) (length args.bytes.now) c.loop-left-test.true loop.invariant.0 in
+    let g = first_there loop.place loop.left (width args.head.dims) (length args.bytes.now) c.loop-left-test.true loop.invariant.0 in
     rw c.width-width.ensures.0 (search rules)
 
 pub loop-left-preserved : goal.loop-left-preserved
@@ -35,7 +35,7 @@ loop-left-preserved c =
     let args = c.args in
     let loop = c.loop-left in
     rw (c.width-width.ensures.0, c.enter-entered.ensures) (
-      first-there loop.place loop.left (width args.head.dims) (length args.bytes.now) c.loop-left-test.true loop.invariant.0,
+      first_there loop.place loop.left (width args.head.dims) (length args.bytes.now) c.loop-left-test.true loop.invariant.0,
       loop.invariant.1 ∙ enter_first args.head args.bytes.now loop.place loop.entered loop.left c.loop-left-test.true,
     )
 

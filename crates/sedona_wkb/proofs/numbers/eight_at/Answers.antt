@@ -16,4 +16,4 @@ pub returns-else-low : goal.returns-else-low
 returns-else-low c =
     let four = c.four_at.ensures in
     let four2 = c.four_at-2.ensures in
-    c.swapped.ensures ∙ rw c.if-low.false (eight_swapped c.args.bytes.now c.args.at c.requires (λ i. omega (arith, c.shared_slice_known-1.given i)) _ (eight_low _ _ c.requires _ _ four.0 four2.0))
+    c.swapped.ensures ∙ rw c.if-low.false (eight_swapped c.args.bytes.now c.args.at c.requires (λ i. omega (arith, c.type_inv.bytes i)) _ (eight_low _ _ c.requires _ _ four.0 four2.0))
