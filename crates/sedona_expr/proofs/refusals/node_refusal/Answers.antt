@@ -30,10 +30,10 @@ returns-then-is_leaf c =
     let if2 = c.if-kind-eq-HAS_Z in
     let is_pair = c.is_pair in
     let if3 = c.if-is_pair in
-    let is_IsLeaf = c.is_leaf in
+    let is_leaf = c.is_leaf in
     let if4 = c.if-is_leaf in
     let leaf_refusal = c.leaf_refusal in
-    rw (leaf_refusal.ensures, ← word.ensures, le-ltb _ _ if1.false, ne_eqb _ _ if2.false, ← is_pair.ensures, if3.false, ← is_IsLeaf.ensures, if4.true)
+    rw (leaf_refusal.ensures, ← word.ensures, le-ltb _ _ if1.false, ne_eqb _ _ if2.false, ← is_pair.ensures, if3.false, ← is_leaf.ensures, if4.true)
 
 pub returns : goal.returns
 unfolding node_refusal
@@ -43,6 +43,6 @@ returns c =
     let if2 = c.if-kind-eq-HAS_Z in
     let is_pair = c.is_pair in
     let if3 = c.if-is_pair in
-    let is_IsLeaf = c.is_leaf in
+    let is_leaf = c.is_leaf in
     let if4 = c.if-is_leaf in
-    rw (← word.ensures, le-ltb _ _ if1.false, ne_eqb _ _ if2.false, ← is_pair.ensures, if3.false, ← is_IsLeaf.ensures, if4.false)
+    rw (← word.ensures, le-ltb _ _ if1.false, ne_eqb _ _ if2.false, ← is_pair.ensures, if3.false, ← is_leaf.ensures, if4.false)
