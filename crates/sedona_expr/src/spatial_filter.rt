@@ -230,11 +230,12 @@ fn full() -> BoundingBox
     BoundingBox::xy(WraparoundInterval::full(), Interval::full())
 }
 
-// The intersection, or all where it is refused.
-fn intersection_or_full(a: BoundingBox, b: BoundingBox) -> BoundingBox
-    ensures { result ≡ filter.or_full (bounding_box.intersection a b) }
+// The intersection, or all where it is refused. (The boxes are lent: so a node of the filter box's recursion
+// keeps less on the stack.)
+fn intersection_or_full(a: &BoundingBox, b: &BoundingBox) -> BoundingBox
+    ensures { result ≡ filter.or_full (bounding_box.intersection a.now b.now) }
 {
-    let out = a.intersection(b);
+    let out = a.intersection(*b);
     if out.number != 0 {
         return full();
     }
@@ -261,22 +262,6 @@ fn leaf_box(
     full()
 }
 
-// The box of a pair takes the left side's place: of an And the intersection, or all where that is refused;
-// of an Or one around both. (The boxes are lent, and the function stays out of line: so each node of the
-// recursion keeps little on the stack.)
-#[inline(never)]
-fn join(kind: u32, a: &mut BoundingBox, b: &BoundingBox)
-    ensures { a.new ≡ tables.pair_of kind (filter.or_full (bounding_box.intersection a.old b.now)) (bounding_box.merge_box a.old b.now) }
-{
-    let left = *a;
-    let right = *b;
-    if kind == AND {
-        *a = intersection_or_full(left, right);
-        return;
-    }
-    *a = left.merge_box(right);
-}
-
 // The box of the tree of a node, for the column of a name.
 fn box_for(
     nodes: &[u32],
@@ -298,10 +283,12 @@ fn box_for(
         }
         return full();
     };
-    let mut a = box_for(nodes, literals, literal_flags, name, pair.left);
+    let a = box_for(nodes, literals, literal_flags, name, pair.left);
     let b = box_for(nodes, literals, literal_flags, name, pair.right);
-    join(kind, &mut a, &b);
-    a
+    if kind == AND {
+        return intersection_or_full(&a, &b);
+    }
+    a.merge_box(b)
 }
 
 // Both calls, by position and by name.

@@ -9,7 +9,7 @@ use Rattle.sedona_expr.specs.SpatialFilter.{literal_false, unknown, box_for}
 use Rattle.sedona_expr.specs.Tables.{Table, table, kind, tree_at}
 use Rattle.sedona_expr.specs.Within as within
 use Rattle.sedona_expr.specs.declared.tables.Children.TheVariants.{Neither}
-use Rattle.sedona_expr.proofs.Trees.{HasChildren, found_children, says_leaf, says_other, says_pair}
+use Rattle.sedona_expr.proofs.Trees.{HasChildren, found_children, says_leaf, says_other, says_pair, pair_and, pair_or}
 use Rattle.sedona_expr.proofs.spatial_filter.+box_for.Goals as goal
 
 -- Where no children were found.
@@ -44,9 +44,16 @@ box_for-b-requires t c =
     let has : HasChildren c.args.nodes.now c.args.node c.in-Both.pair = found_children _ _ _ (sym c.in-Both.is ∙ c.children_of.ensures) in
     (subst (λ (n : ℕ). c.in-Both.pair.right < n) c.decreases has.right_below, omega (arith, c.requires, has.right_below))
 
+pub returns-then-kind-eq-AND : goal.returns-then-kind-eq-AND
+returns-then-kind-eq-AND t c =
+    let a = c.args in
+    let has : HasChildren a.nodes.now a.node c.in-Both.pair = found_children _ _ _ (sym c.in-Both.is ∙ c.children_of.ensures) in
+    rw (c.intersection_or_full.ensures, c.box_for-a.ensures, c.box_for-b.ensures)
+    (sym (says_pair (box_for a.name) (table a.nodes.now a.literals.now a.literal_flags.now) a.node c.in-Both.pair has ∙ pair_and _ _ _ (sym c.word-kind.ensures ∙ c.if-kind-eq-AND.true)))
+
 pub returns : goal.returns
 returns t c =
     let a = c.args in
     let has : HasChildren a.nodes.now a.node c.in-Both.pair = found_children _ _ _ (sym c.in-Both.is ∙ c.children_of.ensures) in
-    rw (c.join.ensures, c.box_for-a.ensures, c.box_for-b.ensures, c.word-kind.ensures)
-    (sym (says_pair (box_for a.name) (table a.nodes.now a.literals.now a.literal_flags.now) a.node c.in-Both.pair has))
+    rw (c.merge_box.ensures, c.box_for-a.ensures, c.box_for-b.ensures)
+    (sym (says_pair (box_for a.name) (table a.nodes.now a.literals.now a.literal_flags.now) a.node c.in-Both.pair has ∙ pair_or _ _ _ (λ e. c.if-kind-eq-AND.false (c.word-kind.ensures ∙ e))))
