@@ -1,5 +1,6 @@
 -- The hypotheses of the laws can be met: by a box with z that crosses the antimeridian, by an array of four numbers, and by a box and an array
 -- with −0. And the number that refuses each fault, and each two faults, computed. Assumes nothing.
+use Rattle.std.specs.Prelude.{Option, Some, None}
 use mathlib.Core.Path.{◌≡◌, refl}
 use mathlib.Core.Bool.{true, false}
 use mathlib.Core.List.{List, [], ◌∷◌, ◌++◌}
@@ -14,10 +15,10 @@ use Rattle.sedona_geometry.specs.WraparoundInterval as wraparound
 use Rattle.sedona_geometry.specs.BoundingBox as bounding_box
 use Rattle.sedona_geometry.specs.BoundingBox.{Canonical, xyzm}
 use Rattle.sedona_geometry.specs.declared.interval.Interval.{Interval}
-use Rattle.sedona_geometry.specs.declared.bounding_box.Dimension.{Dimension}
-use Rattle.sedona_geometry.specs.declared.bounding_box.Dimension.TheVariants.{Missing, Known}
 use Rattle.sedona_geometry.specs.declared.bounding_box.BoundingBox.{BoundingBox}
 use Rattle.sedona_geometry.proofs.Canonical.{xyzm_canonical}
+use Rattle.geoparquet_bbox.specs.Error as error
+use Rattle.geoparquet_bbox.specs.declared.error.Refusal.TheVariants.{BboxLength, KnownM, BadNumbers}
 use Rattle.geoparquet_bbox.specs.Layout.{lows_then_highs, is_finite, are_finite, is_rising, rises_where_known, numbers_refusal, box_refusal, array_refusal, box_of, given, refused, array, to_geoparquet, from_geoparquet, Publishable, PublishableArray, NoMinusZero, EqualNumbers}
 use Rattle.geoparquet_bbox.proofs.Passing.{box_passes, array_passes}
 use Rattle.geoparquet_bbox.proofs.ThereAndBack.{box_same_bits, array_same_bits, box_same_numbers, array_same_numbers}
@@ -30,7 +31,7 @@ minus n = of_int binary64 (neg_ℤ (pos n))
 
 -- ---- a box
 abbrev strip : BoundingBox
-strip = xyzm (wraparound.new (plus 170) (minus 170)) (interval.new (minus 10) (plus 10)) (Known (interval.new (minus 3) (minus 3))) Missing
+strip = xyzm (wraparound.new (plus 170) (minus 170)) (interval.new (minus 10) (plus 10)) (Some (interval.new (minus 3) (minus 3))) None
 
 strip_publishable : Publishable strip
 unfolding is_finite le lt eq round of_int
@@ -45,7 +46,7 @@ strip_publishable = record {
 }
 
 strip_canonical : Canonical strip
-strip_canonical = xyzm_canonical (wraparound.new (plus 170) (minus 170)) (interval.new (minus 10) (plus 10)) (Known (interval.new (minus 3) (minus 3))) Missing
+strip_canonical = xyzm_canonical (wraparound.new (plus 170) (minus 170)) (interval.new (minus 10) (plus 10)) (Some (interval.new (minus 3) (minus 3))) None
 
 pub strip_there_and_back : (from_geoparquet (array (to_geoparquet strip))).bounds ≡ strip
 strip_there_and_back = box_same_bits strip ((box_passes strip).1 strip_publishable) strip_canonical
@@ -81,7 +82,7 @@ abbrev minus_zero : Float
 minus_zero = fin true 0 (pos 0)
 
 abbrev filled : BoundingBox
-filled = record { x = record { inner = record { lo = minus_zero; hi = minus_zero } }; y = record { lo = minus_zero; hi = plus 10 }; z = Known (record { lo = minus 3; hi = minus_zero }); m = Missing }
+filled = record { x = record { inner = record { lo = minus_zero; hi = minus_zero } }; y = record { lo = minus_zero; hi = plus 10 }; z = Some (record { lo = minus 3; hi = minus_zero }); m = None }
 
 filled_publishable : Publishable filled
 unfolding is_finite le lt eq round of_int
@@ -142,7 +143,7 @@ abbrev falling : Interval
 falling = interval.new (plus 2) (plus 1)
 
 -- a box of x, y, z and m
-abbrev boxed : Interval → Interval → Dimension → Dimension → BoundingBox
+abbrev boxed : Interval → Interval → Option Interval → Option Interval → BoundingBox
 boxed x y z m = xyzm (wraparound.from_interval x) y z m
 
 -- 12: an array of none, three, five and seven numbers
@@ -153,16 +154,24 @@ pub bad_lengths : (from_geoparquet [] ≡ bounding_box.refused 12)
 unfolding from_geoparquet array_refusal bounding_box.numbered
 bad_lengths = (refl, refl, refl, refl)
 
+-- beside a number stands an empty array
+pub empty_beside : (array (refused 13) ≡ []) × ((refused 13).count ≡ 0)
+empty_beside = (refl, refl)
+
+-- each refusal's number
+pub numbers : (error.number BboxLength ≡ 12) × (error.number KnownM ≡ 13) × (error.number BadNumbers ≡ 14)
+numbers = (refl, refl, refl)
+
 -- 13: a known m
-pub known_m_lem : to_geoparquet (boxed rising rising Missing (Known rising)) ≡ refused 13
+pub known_m_lem : to_geoparquet (boxed rising rising None (Some rising)) ≡ refused 13
 unfolding to_geoparquet box_refusal
 known_m_lem = refl
 
 -- 14, towards an array: NaN and an infinity in x, a y that falls, a z that falls
-pub bad_boxes : (to_geoparquet (boxed (interval.new nan (plus 2)) rising Missing Missing) ≡ refused 14)
-    × (to_geoparquet (boxed (interval.new (plus 1) (inf false)) rising Missing Missing) ≡ refused 14)
-    × (to_geoparquet (boxed rising falling Missing Missing) ≡ refused 14)
-    × (to_geoparquet (boxed rising rising (Known falling) Missing) ≡ refused 14)
+pub bad_boxes : (to_geoparquet (boxed (interval.new nan (plus 2)) rising None None) ≡ refused 14)
+    × (to_geoparquet (boxed (interval.new (plus 1) (inf false)) rising None None) ≡ refused 14)
+    × (to_geoparquet (boxed rising falling None None) ≡ refused 14)
+    × (to_geoparquet (boxed rising rising (Some falling) None) ≡ refused 14)
 unfolding to_geoparquet box_refusal numbers_refusal rises_where_known is_rising are_finite is_finite lt round of_int
 bad_boxes = (refl, refl, refl, refl)
 
@@ -175,8 +184,8 @@ unfolding from_geoparquet array_refusal box_of bounding_box.numbered numbers_ref
 bad_arrays = (refl, refl, refl, refl)
 
 -- 13 before 14: a known m beside NaN in x, and beside a y that falls
-pub known_m_first : (to_geoparquet (boxed (interval.new nan (plus 2)) rising Missing (Known rising)) ≡ refused 13)
-    × (to_geoparquet (boxed rising falling Missing (Known rising)) ≡ refused 13)
+pub known_m_first : (to_geoparquet (boxed (interval.new nan (plus 2)) rising None (Some rising)) ≡ refused 13)
+    × (to_geoparquet (boxed rising falling None (Some rising)) ≡ refused 13)
 unfolding to_geoparquet box_refusal
 known_m_first = (refl, refl)
 

@@ -1,4 +1,5 @@
 -- When nothing is refused, in plain words: `box_passes` and `array_passes`. Assumes nothing.
+use Rattle.std.specs.Prelude.{Option, Some, None, is_some}
 use mathlib.Core.Path.{◌≡◌, refl, sym, ap, ◌∙◌}
 use mathlib.Core.Bool.{Bool, true, false, not, ◌&&◌, cond, and-eq-true_iff}
 use mathlib.Core.List.{List}
@@ -12,15 +13,13 @@ use borrow.Author.Tests.{eqb-true, eq-eqb, not-true}
 use Rattle.sedona_geometry.specs.BoundingBox.{numbered}
 use Rattle.sedona_geometry.specs.BoundingBox as bounding_box
 use Rattle.sedona_geometry.specs.declared.interval.Interval.{Interval}
-use Rattle.sedona_geometry.specs.declared.bounding_box.Dimension.{Dimension}
-use Rattle.sedona_geometry.specs.declared.bounding_box.Dimension.TheVariants.{Missing, Known}
 use Rattle.sedona_geometry.specs.declared.bounding_box.BoundingBox.{BoundingBox}
-use Rattle.sedona_geometry.specs.declared.bounding_box.NumberedBox.{NumberedBox}
+use Rattle.sedona_geometry.specs.BoundingBox.{NumberedBox}
 use Rattle.sedona_geometry.proofs.Booleans.{holds, fails, is_true, is_false}
 use Rattle.sedona_geometry.proofs.Order.{le_of_not_lt, lt_not_le}
 use Rattle.geoparquet_bbox.specs.Error as error
 use Rattle.geoparquet_bbox.specs.Layout.{is_finite, are_finite, is_rising, rises_where_known, is_known, numbers_refusal, box_refusal, array_refusal, box_of_four, box_of_six, box_of, to_geoparquet, from_geoparquet, Finite, Rising, Publishable, PublishableArray}
-use Rattle.geoparquet_bbox.specs.declared.layout.NumberedArray.{NumberedArray}
+use Rattle.geoparquet_bbox.specs.Layout.{NumberedArray}
 use Rattle.geoparquet_bbox.proofs.Finite.{finite_number}
 
 -- ---- an interval
@@ -48,17 +47,17 @@ is_rising_lem i = (there, back)
         let l = is_false (lt i.hi i.lo) (λ h. lt_not_le (record { test = h }) (record { test = holds r.low_to_high })) in
         both.1 ((are_finite_lem i).1 r.ends, rw l)
 
-rises_where_known_lem : (d : Dimension) → (rises_where_known d ≡ true) ↔ bounding_box.WhereKnown Rising d
+rises_where_known_lem : (d : Option Interval) → (rises_where_known d ≡ true) ↔ bounding_box.WhereKnown Rising d
 unfolding rises_where_known
-rises_where_known_lem Missing = (λ e. tt, λ h. refl)
-rises_where_known_lem (Known i) = is_rising_lem i
+rises_where_known_lem None = (λ e. tt, λ h. refl)
+rises_where_known_lem (Some i) = is_rising_lem i
 
 -- ---- a box
 passes_by : (t : Bool) (n : ℕ) → (n ≡ 0 → ⊥) → (cond t 0 n ≡ 0) ↔ (t ≡ true)
 passes_by true n h = (λ e. refl, λ e. refl)
 passes_by false n h = (λ e. absurd (h e), λ e. absurd (holds e))
 
-numbers_pass : (b : BoundingBox) → b.m ≡ Missing → (numbers_refusal b ≡ 0) ↔ Publishable b
+numbers_pass : (b : BoundingBox) → b.m ≡ None → (numbers_refusal b ≡ 0) ↔ Publishable b
 unfolding numbers_refusal
 numbers_pass b no_m_lem =
     let x = are_finite b.x.inner in
@@ -80,9 +79,9 @@ numbers_pass b no_m_lem =
     )
 
 -- a known m refuses, and else the numbers do
-pub by_m : (b : BoundingBox) {m : Dimension} → b.m ≡ m → box_refusal b ≡ cond (is_known m) error.known_m (numbers_refusal b)
+pub by_m : (b : BoundingBox) {m : Option Interval} → b.m ≡ m → box_refusal b ≡ cond (is_known m) error.known_m (numbers_refusal b)
 unfolding box_refusal
-by_m b e = ap (λ (m : Dimension). cond (is_known m) error.known_m (numbers_refusal b)) e
+by_m b e = ap (λ (m : Option Interval). cond (is_known m) error.known_m (numbers_refusal b)) e
 
 -- the number of an answer that is given where n is 0, and else refused by n
 number_is : {A : Type 0} (number : A → ℕ) (n : ℕ) {given refused : A} → number given ≡ 0 → number refused ≡ n → number (cond (eqb n 0) given refused) ≡ n
@@ -103,16 +102,16 @@ box_passes b = (
   λ p. to_number b ∙ by_m b p.no_m ∙ (numbers_pass b p.no_m).1 p,
 )
   where
-    there : (m : Dimension) → b.m ≡ m → box_refusal b ≡ 0 → Publishable b
-    there Missing e h = (numbers_pass b e).0 (sym (by_m b e) ∙ h)
-    there (Known i) e h = let k = sym (by_m b e) ∙ h in absurd (omega arith)
+    there : (m : Option Interval) → b.m ≡ m → box_refusal b ≡ 0 → Publishable b
+    there None e h = (numbers_pass b e).0 (sym (by_m b e) ∙ h)
+    there (Some i) e h = let k = sym (by_m b e) ∙ h in absurd (omega arith)
 
 -- ---- an array
-no_m_lem : (vs : List Float) → (box_of vs).m ≡ Missing
+no_m_lem : (vs : List Float) → (box_of vs).m ≡ None
 unfolding box_of
 no_m_lem vs = go (eqb (length vs) 4)
   where
-    go : (four : Bool) → (cond four (box_of_four vs) (box_of_six vs)).m ≡ Missing
+    go : (four : Bool) → (cond four (box_of_four vs) (box_of_six vs)).m ≡ None
     go true = refl
     go false = refl
 
@@ -144,3 +143,7 @@ array_passes vs = (
     there true six e f h = passed (inl (eqb-true (length vs) 4 e)) h
     there false true e f h = passed (inr (eqb-true (length vs) 6 f)) h
     there false false e f h = let k = sym (neither vs e f) ∙ h in absurd (omega arith)
+
+pub known_is_some : (d : Option Interval) → is_known d ≡ is_some d
+known_is_some None = refl
+known_is_some (Some i) = refl

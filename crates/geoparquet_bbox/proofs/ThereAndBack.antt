@@ -1,5 +1,6 @@
 -- There and back: a box that is not refused, turned into an array and back, has the same numbers, and is the same box where it has no −0; and so is
 -- an array that is not refused, turned into a box and back. `box_passes` and `array_passes` of Passing say what is not refused. Assumes nothing.
+use Rattle.std.specs.Prelude.{Option, Some, None}
 use mathlib.Core.Path.{◌≡◌, refl, sym, ap, ap₂, subst, ◌∙◌}
 use mathlib.Core.Bool.{true}
 use mathlib.Core.List.{List, [], ◌∷◌, map}
@@ -15,8 +16,6 @@ use Rattle.sedona_geometry.specs.Interval as interval
 use Rattle.sedona_geometry.specs.BoundingBox as bounding_box
 use Rattle.sedona_geometry.specs.BoundingBox.{WhereKnown, KnownAlike, Canonical, plus_zero_where_known, xyzm, plus_zero, accepted, numbered}
 use Rattle.sedona_geometry.specs.declared.interval.Interval.{Interval}
-use Rattle.sedona_geometry.specs.declared.bounding_box.Dimension.{Dimension}
-use Rattle.sedona_geometry.specs.declared.bounding_box.Dimension.TheVariants.{Missing, Known}
 use Rattle.sedona_geometry.specs.declared.bounding_box.BoundingBox.{BoundingBox}
 use Rattle.sedona_geometry.proofs.Keys.{plus_equal, plus_equal_interval}
 use Rattle.sedona_geometry.proofs.Order.{Number}
@@ -37,13 +36,13 @@ places_rest vs k zero e = let h : k ≡ length vs = omega arith in rw (h, drop-l
 places_rest vs k (suc n) e = let h = places_rest vs (suc k) n (omega arith) in rw (h, drop-cons vs k nan (omega arith))
 
 -- ---- one layout laid over the other
-box_of_array : (b : BoundingBox) → b.m ≡ Missing → box_of (array_of b) ≡ plus_zero b
+box_of_array : (b : BoundingBox) → b.m ≡ None → box_of (array_of b) ≡ plus_zero b
 unfolding box_of lows_then_highs
 box_of_array b e = go b.z ∙ ap (λ m. xyzm b.x b.y b.z m) (sym e)
   where
-    go : (z : Dimension) → box_of (array_of (record { x = b.x; y = b.y; z = z; m = b.m })) ≡ xyzm b.x b.y z Missing
-    go Missing = simp twice
-    go (Known i) = simp twice
+    go : (z : Option Interval) → box_of (array_of (record { x = b.x; y = b.y; z = z; m = b.m })) ≡ xyzm b.x b.y z None
+    go None = simp twice
+    go (Some i) = simp twice
 
 array_of_box : (vs : List Float) → (length vs ≡ 4) ⊎ (length vs ≡ 6) → array_of (box_of vs) ≡ map float.plus_zero vs
 unfolding box_of lows_then_highs
@@ -55,9 +54,9 @@ array_given : (b : BoundingBox) → ((length (array_of b) ≡ 4) ⊎ (length (ar
 unfolding lows_then_highs
 array_given b = go (plus_zero b).x.inner (plus_zero b).y (plus_zero b).z
   where
-    go : (x y : Interval) (z : Dimension) → ((length (lows_then_highs x y z) ≡ 4) ⊎ (length (lows_then_highs x y z) ≡ 6)) × (array (given (lows_then_highs x y z)) ≡ lows_then_highs x y z)
-    go x y Missing = (inl refl, refl)
-    go x y (Known i) = (inr refl, refl)
+    go : (x y : Interval) (z : Option Interval) → ((length (lows_then_highs x y z) ≡ 4) ⊎ (length (lows_then_highs x y z) ≡ 6)) × (array (given (lows_then_highs x y z)) ≡ lows_then_highs x y z)
+    go x y None = (inl refl, refl)
+    go x y (Some i) = (inr refl, refl)
 
 -- ---- what is given where nothing is refused
 to_given : (b : BoundingBox) → (to_geoparquet b).number ≡ 0 → to_geoparquet b ≡ given (array_of b)
@@ -75,9 +74,9 @@ plus_finite {i} f = record { lo = finite_alike (alike_plus i.lo) ∙ f.lo; hi = 
 plus_rising : {i : Interval} → Rising i → Rising (interval.plus_zero i)
 plus_rising {i} r = record { ends = plus_finite r.ends; low_to_high = le_alike (alike_plus i.lo) (alike_plus i.hi) ∙ r.low_to_high }
 
-plus_rising_where_known : (d : Dimension) → WhereKnown Rising d → WhereKnown Rising (plus_zero_where_known d)
-plus_rising_where_known Missing r = tt
-plus_rising_where_known (Known i) r = plus_rising r
+plus_rising_where_known : (d : Option Interval) → WhereKnown Rising d → WhereKnown Rising (plus_zero_where_known d)
+plus_rising_where_known None r = tt
+plus_rising_where_known (Some i) r = plus_rising r
 
 plus_publishable : {b : BoundingBox} → Publishable b → Publishable (plus_zero b)
 plus_publishable {b} p = record {
@@ -113,9 +112,9 @@ array_there_and_back vs e =
 finite_ends : {i : Interval} → Finite i → interval.EqualNumbers (interval.plus_zero i) i
 finite_ends {i} f = plus_equal_interval (finite_number i.lo f.lo) (finite_number i.hi f.hi)
 
-rising_where_known : (d : Dimension) → WhereKnown Rising d → KnownAlike interval.EqualNumbers (plus_zero_where_known d) d
-rising_where_known Missing r = tt
-rising_where_known (Known i) r = finite_ends r.ends
+rising_where_known : (d : Option Interval) → WhereKnown Rising d → KnownAlike interval.EqualNumbers (plus_zero_where_known d) d
+rising_where_known None r = tt
+rising_where_known (Some i) r = finite_ends r.ends
 
 pub box_same_numbers : (b : BoundingBox) → (to_geoparquet b).number ≡ 0 → bounding_box.EqualNumbers (from_geoparquet (array (to_geoparquet b))).bounds b
 box_same_numbers b e =

@@ -1,5 +1,5 @@
 -- GeoParquet's `bbox` array and a box, each turned into the other, after request 1 of 02.
-use Rattle.std.specs.Prelude.{◌≡◌, Bool, true, false, not, ◌&&◌, ◌||◌, cond, List, [], ◌∷◌, ◌++◌, ◌⊎◌, ℕ, ◌+◌, eqb, length, get_or, take, replicate, Float}
+use Rattle.std.specs.Prelude.{◌≡◌, Bool, true, false, not, ◌&&◌, ◌||◌, cond, List, [], ◌∷◌, ◌++◌, ◌⊎◌, ℕ, ◌+◌, eqb, length, get_or, take, replicate, Float, Option, Some, None, Result, Ok, Err}
 use Rattle.std.specs.Float.{nan, inf, fin}
 use Rattle.std.specs.Float.Ieee.{lt, le, eq}
 use Rattle.sedona_geometry.specs.Float as float
@@ -7,19 +7,18 @@ use Rattle.sedona_geometry.specs.Interval as interval
 use Rattle.sedona_geometry.specs.WraparoundInterval as wraparound
 use Rattle.sedona_geometry.specs.BoundingBox as bounding_box
 use Rattle.sedona_geometry.specs.declared.interval.Interval.{Interval}
-use Rattle.sedona_geometry.specs.declared.bounding_box.Dimension.{Dimension}
-use Rattle.sedona_geometry.specs.declared.bounding_box.Dimension.TheVariants.{Missing, Known}
 use Rattle.sedona_geometry.specs.declared.bounding_box.BoundingBox.{BoundingBox}
-use Rattle.sedona_geometry.specs.declared.bounding_box.NumberedBox.{NumberedBox}
+use Rattle.sedona_geometry.specs.BoundingBox.{NumberedBox}
 use Rattle.geoparquet_bbox.specs.Error as error
-use Rattle.geoparquet_bbox.specs.declared.layout.NumberedArray.{NumberedArray}
+use Rattle.geoparquet_bbox.specs.declared.error.Refusal.{Refusal}
+use Rattle.geoparquet_bbox.specs.declared.layout.BboxArray.{BboxArray}
 
 -- ---- the two layouts
 
 -- "(xmin, ymin, xmax, ymax), or six numbers with zmin and zmax third and sixth".
-unfoldable pub lows_then_highs : Interval → Interval → Dimension → List Float
-lows_then_highs x y Missing = x.lo ∷ y.lo ∷ x.hi ∷ y.hi ∷ []
-lows_then_highs x y (Known z) = x.lo ∷ y.lo ∷ z.lo ∷ x.hi ∷ y.hi ∷ z.hi ∷ []
+unfoldable pub lows_then_highs : Interval → Interval → Option Interval → List Float
+lows_then_highs x y None = x.lo ∷ y.lo ∷ x.hi ∷ y.hi ∷ []
+lows_then_highs x y (Some z) = x.lo ∷ y.lo ∷ z.lo ∷ x.hi ∷ y.hi ∷ z.hi ∷ []
 
 -- Of a box handed on: request 6 asks +0 of an array too.
 abbrev pub array_of : BoundingBox → List Float
@@ -35,7 +34,7 @@ box_of_four vs = bounding_box.xy (wraparound.from_interval (interval_at vs 2 0))
 
 -- Of six: x, y and z.
 abbrev pub box_of_six : List Float → BoundingBox
-box_of_six vs = bounding_box.xyzm (wraparound.from_interval (interval_at vs 3 0)) (interval_at vs 3 1) (Known (interval_at vs 3 2)) Missing
+box_of_six vs = bounding_box.xyzm (wraparound.from_interval (interval_at vs 3 0)) (interval_at vs 3 1) (Some (interval_at vs 3 2)) None
 
 -- The box of an array. (One of another length is refused.)
 unfoldable pub box_of : List Float → BoundingBox
@@ -57,17 +56,17 @@ unfoldable pub is_rising : Interval → Bool
 is_rising i = are_finite i && not (lt i.hi i.lo)
 
 -- The same, where it is known.
-unfoldable pub rises_where_known : Dimension → Bool
-rises_where_known Missing = true
-rises_where_known (Known i) = is_rising i
+unfoldable pub rises_where_known : Option Interval → Bool
+rises_where_known None = true
+rises_where_known (Some i) = is_rising i
 
 -- 14: "a NaN or infinity in any known number, or a low above its high in y or z". It is asked only where m is missing.
 unfoldable pub numbers_refusal : BoundingBox → ℕ
 numbers_refusal b = cond (are_finite b.x.inner && is_rising b.y && rises_where_known b.z) 0 error.bad_numbers
 
-abbrev pub is_known : Dimension → Bool
-is_known Missing = false
-is_known (Known i) = true
+abbrev pub is_known : Option Interval → Bool
+is_known None = false
+is_known (Some i) = true
 
 -- Towards an array: "a known m is 13, before 14".
 unfoldable pub box_refusal : BoundingBox → ℕ
@@ -78,6 +77,15 @@ unfoldable pub array_refusal : List Float → ℕ
 array_refusal vs = cond (eqb (length vs) 4 || eqb (length vs) 6) (numbers_refusal (box_of vs)) error.bbox_length
 
 -- ---- the calls
+
+-- An array with its number: 0, or the number that refuses it, with an empty array beside it.
+pub record NumberedArray : Type 0 where
+  pub number : ℕ
+  pub count : ℕ
+  pub numbers : List Float
+
+abbrev pub numbered : ℕ → BboxArray → NumberedArray
+numbered n a = record { number = n; count = a.count; numbers = a.numbers }
 
 -- A number and a list beside it: how many it has, and its numbers in six places, with 0 behind them.
 abbrev pub numbered_array : ℕ → List Float → NumberedArray
@@ -90,6 +98,11 @@ given vs = numbered_array 0 vs
 -- A number alone: "a list beside one is empty".
 abbrev pub refused : ℕ → NumberedArray
 refused n = numbered_array n []
+
+-- What a call answers, as an array with its number.
+abbrev pub told : Result BboxArray Refusal → NumberedArray
+told (Ok a) = numbered 0 a
+told (Err e) = refused (error.number e)
 
 -- The list that such an answer holds.
 abbrev pub array : NumberedArray → List Float
@@ -128,7 +141,7 @@ pub record Rising (i : Interval) : Type 0 where
 -- A box that both layouts hold: x finite, either way round; y finite and low to high; z too, where it is known; m missing.
 pub record Publishable (b : BoundingBox) : Type 0 where
   pub numbers : bounding_box.Every (λ x. Finite x.inner) Rising (bounding_box.WhereKnown Rising) b
-  pub no_m : b.m ≡ Missing
+  pub no_m : b.m ≡ None
 
 -- An array that both layouts hold: four numbers or six, and the box that they are.
 pub record PublishableArray (vs : List Float) : Type 0 where

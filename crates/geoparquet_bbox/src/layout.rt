@@ -2,10 +2,11 @@
 // xmax, ymax), or with z known as (xmin, ymin, zmin, xmax, ymax, zmax).
 ghost use Rattle.std.specs.Prelude.{◌≡◌, ◌<◌, ◌+◌, length};
 ghost use Rattle.sedona_geometry.specs.BoundingBox as bounding_box;
+ghost use Rattle.geoparquet_bbox.specs.Error as error;
 ghost use Rattle.geoparquet_bbox.specs.Layout as layout;
 
-use crate::error::{BAD_NUMBERS, BBOX_LENGTH, KNOWN_M};
-use sedona_geometry::bounding_box::{BoundingBox, Dimension, NumberedBox};
+use crate::error::Refusal;
+use sedona_geometry::bounding_box::BoundingBox;
 use sedona_geometry::float::{abs, infinity};
 use sedona_geometry::interval::{Interval, WraparoundInterval};
 
@@ -14,28 +15,11 @@ const WITHOUT_Z: usize = 4;
 
 const WITH_Z: usize = 6;
 
-// An array with its number: 0, or the number that refuses it, with an empty array beside it.
+// An array: its first four or six numbers, and 0.0 behind them. (C lends room for six, and a count.)
 #[derive(Clone, Copy)]
-pub struct NumberedArray {
-    pub number: u32,
-    // How many of the numbers are the array: four or six, or none.
+pub struct BboxArray {
     pub count: usize,
-    // The array, and 0.0 behind it.
     pub numbers: [f64; WITH_Z],
-}
-
-impl NumberedArray {
-    // The number alone.
-    pub fn refused(number: u32) -> NumberedArray
-        ensures { result ≡ layout.refused number }
-    {
-        let numbers = [0.0; WITH_Z];
-        NumberedArray {
-            number,
-            count: 0,
-            numbers,
-        }
-    }
 }
 
 // Whether a number is neither NaN nor infinite.
@@ -59,118 +43,96 @@ fn is_rising(i: Interval) -> bool
     are_finite(i) && !(i.hi < i.lo)
 }
 
-// The same of a dimension, where it is known.
-fn rises_where_known(d: Dimension) -> bool
+// Whether a dimension is, where it is known.
+fn rises_where_known(d: Option<Interval>) -> bool
     ensures { result ≡ layout.rises_where_known d }
 {
-    let Dimension::Known(i) = d else {
-        return true;
-    };
-    is_rising(i)
+    d.is_none_or(is_rising)
 }
 
-// What the numbers of x, y and z are refused by.
-fn numbers_refusal(b: BoundingBox) -> u32
-    ensures { result ≡ layout.numbers_refusal b }
+// Refuses the numbers of x, y and z.
+fn check_numbers(b: BoundingBox) -> Result<(), Refusal>
+    ensures { error.number_of result ≡ layout.numbers_refusal b }
 {
-    let x = b.x;
-    let z = b.z;
-    if !are_finite(x.inner) {
-        return BAD_NUMBERS;
+    if !are_finite(b.x.inner) {
+        return Err(Refusal::BadNumbers);
     }
     if !is_rising(b.y) {
-        return BAD_NUMBERS;
+        return Err(Refusal::BadNumbers);
     }
-    if rises_where_known(z) { 0 } else { BAD_NUMBERS }
+    if rises_where_known(b.z) {
+        Ok(())
+    } else {
+        Err(Refusal::BadNumbers)
+    }
 }
 
-// What a box is refused by: a known m, then its numbers.
-fn box_refusal(b: BoundingBox) -> u32
-    ensures { result ≡ layout.box_refusal b }
+// Refuses a known m, then the numbers.
+fn check_box(b: BoundingBox) -> Result<(), Refusal>
+    ensures { error.number_of result ≡ layout.box_refusal b }
 {
-    let m = b.m;
-    let Dimension::Missing = m else {
-        return KNOWN_M;
-    };
-    numbers_refusal(b)
+    if b.m.is_some() {
+        return Err(Refusal::KnownM);
+    }
+    check_numbers(b)
 }
 
-// The array of a box: its length, and its numbers.
-fn laid_out(x: Interval, y: Interval, z: Dimension) -> NumberedArray
-    ensures { result ≡ layout.given (layout.lows_then_highs x y z) }
+// The array of x, y and z.
+fn laid_out(x: Interval, y: Interval, z: Option<Interval>) -> BboxArray
+    ensures { layout.numbered 0 result ≡ layout.given (layout.lows_then_highs x y z) }
 {
-    let Dimension::Known(i) = z else {
-        let numbers = [x.lo, y.lo, x.hi, y.hi, 0.0, 0.0];
-        return NumberedArray {
-            number: 0,
-            count: WITHOUT_Z,
-            numbers,
-        };
-    };
-    let numbers = [x.lo, y.lo, i.lo, x.hi, y.hi, i.hi];
-    NumberedArray {
-        number: 0,
-        count: WITH_Z,
-        numbers,
+    match z {
+        None => {
+            let numbers = [x.lo, y.lo, x.hi, y.hi, 0.0, 0.0];
+            BboxArray {
+                count: WITHOUT_Z,
+                numbers,
+            }
+        }
+        Some(z) => {
+            let numbers = [x.lo, y.lo, z.lo, x.hi, y.hi, z.hi];
+            BboxArray {
+                count: WITH_Z,
+                numbers,
+            }
+        }
     }
 }
 
 // The array of a box, with +0 for zero. Refused with 13 where m is known; then with 14 where a known number is NaN or
 // infinite, or y or z has its low above its high. x may have: it crosses the antimeridian then.
-pub fn to_geoparquet(bounds: BoundingBox) -> NumberedArray
-    ensures { result ≡ layout.to_geoparquet bounds }
+pub fn to_geoparquet(bounds: BoundingBox) -> Result<BboxArray, Refusal>
+    ensures { layout.told result ≡ layout.to_geoparquet bounds }
 {
-    let number = box_refusal(bounds);
-    if number != 0 {
-        return NumberedArray::refused(number);
-    }
-    let z = bounds.z;
-    let m = bounds.m;
-    let plus = BoundingBox::xyzm(bounds.x, bounds.y, z, m);
-    let x = plus.x;
-    let plus_z = plus.z;
-    laid_out(x.inner, plus.y, plus_z)
-}
-
-// Dimension k of an array of so many dimensions.
-fn interval_at(array: &[f64], dimensions: usize, k: usize) -> Interval
-    requires { dimensions + k < length array.now }
-    ensures { result ≡ layout.interval_at array.now dimensions k }
-{
-    Interval::new(array[k], array[dimensions + k])
+    check_box(bounds)?;
+    let plus = bounds.plus_zero();
+    Ok(laid_out(plus.x.inner, plus.y, plus.z))
 }
 
 // The box, where its numbers are not refused.
-fn numbered(bounds: BoundingBox) -> NumberedBox
-    ensures { result ≡ bounding_box.numbered (layout.numbers_refusal bounds) bounds }
+fn checked(bounds: BoundingBox) -> Result<BoundingBox, Refusal>
+    ensures { bounding_box.given error.number result ≡ bounding_box.numbered (layout.numbers_refusal bounds) bounds }
 {
-    let number = numbers_refusal(bounds);
-    if number != 0 {
-        return NumberedBox::refused(number);
-    }
-    NumberedBox::accepted(bounds)
+    check_numbers(bounds)?;
+    Ok(bounds.plus_zero())
 }
 
 // The box of an array. Refused with 12 where it has neither four nor six numbers; then with 14, as
 // above.
-pub fn from_geoparquet(array: &[f64]) -> NumberedBox
-    ensures { result ≡ layout.from_geoparquet array.now }
+pub fn from_geoparquet(array: &[f64]) -> Result<BoundingBox, Refusal>
+    ensures { bounding_box.given error.number result ≡ layout.from_geoparquet array.now }
 {
-    if array.len() == WITHOUT_Z {
-        let x = interval_at(array, 2, 0);
-        let y = interval_at(array, 2, 1);
-        return numbered(BoundingBox::xy(WraparoundInterval::from_interval(x), y));
+    match *array {
+        [xmin, ymin, xmax, ymax] => checked(BoundingBox::xy(
+            WraparoundInterval::from_interval(Interval::new(xmin, xmax)),
+            Interval::new(ymin, ymax),
+        )),
+        [xmin, ymin, zmin, xmax, ymax, zmax] => checked(BoundingBox::xyzm(
+            WraparoundInterval::from_interval(Interval::new(xmin, xmax)),
+            Interval::new(ymin, ymax),
+            Some(Interval::new(zmin, zmax)),
+            None,
+        )),
+        _ => Err(Refusal::BboxLength),
     }
-    if array.len() == WITH_Z {
-        let x = interval_at(array, 3, 0);
-        let y = interval_at(array, 3, 1);
-        let z = interval_at(array, 3, 2);
-        return numbered(BoundingBox::xyzm(
-            WraparoundInterval::from_interval(x),
-            y,
-            Dimension::Known(z),
-            Dimension::Missing,
-        ));
-    }
-    NumberedBox::refused(BBOX_LENGTH)
 }

@@ -1,6 +1,7 @@
 -- Request 6: what a C call gives, or leaves where it is not refused, has no −0 in an interval or a box. What `johikape_filter_bbox`, `_box_to_geoparquet`,
 -- `_box_from_geoparquet` and `_box_from_wkb` leave, the crates that give it say so of: `filter_bbox_canonical`, `to_geoparquet_canonical`,
 -- `from_geoparquet_canonical` and `wkb_bounds_canonical`, with `doubles_canonical` here. Assumes nothing.
+use Rattle.std.specs.Prelude.{Option, Some, None}
 use mathlib.Core.Path.{◌≡◌, refl, ap}
 use mathlib.Core.Bool.{Bool, true, false, ◌&&◌, cond}
 use mathlib.Core.List.{map}
@@ -13,7 +14,6 @@ use Rattle.sedona_geometry.specs.WraparoundInterval as wraparound
 use Rattle.sedona_geometry.specs.BoundingBox as bounding_box
 use Rattle.sedona_geometry.specs.BoundingBox.{Canonical, WhereKnown}
 use Rattle.sedona_geometry.specs.declared.interval.Interval.{Interval}
-use Rattle.sedona_geometry.specs.declared.bounding_box.Dimension.{Dimension}
 use Rattle.sedona_geometry.specs.declared.bounding_box.BoundingBox.{BoundingBox}
 use Rattle.sedona_geometry.proofs.Canonical as canonical
 use Rattle.sedona_geometry.proofs.Canonical.{CanonicalWhereSingle}
@@ -21,7 +21,6 @@ use Rattle.sedona_geometry.proofs.Keys.{same_box}
 use Rattle.sedona_expr.specs.Error as error
 use Rattle.sedona_expr.specs.Statistics as statistics
 use Rattle.sedona_expr.specs.Tables as tables
-use Rattle.sedona_expr.specs.declared.statistics.Bbox.{Bbox}
 use Rattle.sedona_expr.specs.declared.statistics.GeoStatistics.{GeoStatistics}
 use Rattle.sedona_expr.proofs.Canonical.{CanonicalRecord, merge_value_canonical, fold_canonical}
 use Rattle.geoparquet_bbox.specs.Layout.{NoMinusZero}
@@ -65,15 +64,15 @@ module _ (a b : JohikapeInterval) (v : Float) where
   x_intersection = canonical.intersection_x_canonical (x a) (x b)
 
 -- ---- boxes: the eight doubles, with 0 for what is missing
-low_canonical : (d : Dimension) → WhereKnown interval.Canonical d → is_minus_zero (box.low d) ≡ false
+low_canonical : (d : Option Interval) → WhereKnown interval.Canonical d → is_minus_zero (box.low d) ≡ false
 unfolding of_bits
-low_canonical Dimension.Missing c = refl
-low_canonical (Dimension.Known i) c = c.lo
+low_canonical None c = refl
+low_canonical (Some i) c = c.lo
 
-high_canonical : (d : Dimension) → WhereKnown interval.Canonical d → is_minus_zero (box.high d) ≡ false
+high_canonical : (d : Option Interval) → WhereKnown interval.Canonical d → is_minus_zero (box.high d) ≡ false
 unfolding of_bits
-high_canonical Dimension.Missing c = refl
-high_canonical (Dimension.Known i) c = c.hi
+high_canonical None c = refl
+high_canonical (Some i) c = c.hi
 
 pub doubles_canonical : {b : BoundingBox} → Canonical b → NoMinusZero (box.doubles b)
 doubles_canonical {b} c = (
@@ -91,22 +90,22 @@ same_bytes D E c d e =
     let same = same_box D E c d e in
     (ap (λ (k : BoundingBox). map (to_bits binary64) (box.doubles k)) same, ap box.flag same)
 
-pub merged_canonical : (a b : Bbox) → Canonical (box.merged a b).bounds
+pub merged_canonical : (a b : Option BoundingBox) → Canonical (box.merged a b).bounds
 unfolding box.join
-merged_canonical Bbox.Missing b = canonical.empty_box_canonical
-merged_canonical (Bbox.Known a) Bbox.Missing = canonical.empty_box_canonical
-merged_canonical (Bbox.Known a) (Bbox.Known b) = canonical.accepted_canonical (bounding_box.merge_box a b)
+merged_canonical None b = canonical.empty_box_canonical
+merged_canonical (Some a) None = canonical.empty_box_canonical
+merged_canonical (Some a) (Some b) = canonical.accepted_canonical (bounding_box.merge_box a b)
 
-pub met_canonical : (a b : Bbox) → Canonical (box.met a b).bounds
+pub met_canonical : (a b : Option BoundingBox) → Canonical (box.met a b).bounds
 unfolding box.join
-met_canonical Bbox.Missing b = canonical.empty_box_canonical
-met_canonical (Bbox.Known a) Bbox.Missing = canonical.empty_box_canonical
-met_canonical (Bbox.Known a) (Bbox.Known b) = canonical.intersection_box_canonical a b
+met_canonical None b = canonical.empty_box_canonical
+met_canonical (Some a) None = canonical.empty_box_canonical
+met_canonical (Some a) (Some b) = canonical.intersection_box_canonical a b
 
-pub expanded_canonical : (a : Bbox) (d : Float) → Canonical (box.expanded a d).bounds
+pub expanded_canonical : (a : Option BoundingBox) (d : Float) → Canonical (box.expanded a d).bounds
 unfolding box.expanded
-expanded_canonical Bbox.Missing d = canonical.empty_box_canonical
-expanded_canonical (Bbox.Known a) d = canonical.accepted_canonical (bounding_box.expand_by a d)
+expanded_canonical None d = canonical.empty_box_canonical
+expanded_canonical (Some a) d = canonical.accepted_canonical (bounding_box.expand_by a d)
 
 -- ---- records: the first eight doubles; the two lengths behind them are no intervals
 pub record_doubles_canonical : (s : GeoStatistics) → CanonicalRecord s → NoMinusZero (take tables.ends (rec.doubles s))
@@ -119,9 +118,9 @@ record_doubles_canonical s c = go s.bbox c
     h : Float
     h = rec.extent s.total_envelope_height
 
-    go : (b : Bbox) → statistics.CanonicalWhereKnown b → NoMinusZero (take tables.ends (rec.box_doubles b w h))
-    go Bbox.Missing c = (refl, (refl, (refl, (refl, (refl, (refl, (refl, (refl, tt))))))))
-    go (Bbox.Known b) c = doubles_canonical c
+    go : (b : Option BoundingBox) → statistics.CanonicalWhereKnown b → NoMinusZero (take tables.ends (rec.box_doubles b w h))
+    go None c = (refl, (refl, (refl, (refl, (refl, (refl, (refl, (refl, tt))))))))
+    go (Some b) c = doubles_canonical c
 
 pub merged_record_canonical : (p q : rec.Parts) → CanonicalRecord (rec.merged p q).rec
 unfolding rec.merged

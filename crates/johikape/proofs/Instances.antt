@@ -1,16 +1,17 @@
 -- The hypotheses of the theorems on what crosses can be met: by boxes made of −0 and of +0, and by a record of such a box; and what the
 -- definitions of fees answer, computed. Assumes nothing.
+use Rattle.std.specs.Prelude.{Some, None}
 use mathlib.Core.Path.{◌≡◌, refl}
 use mathlib.Core.List.{List, [], ◌∷◌, map}
 use Prim.Native.Nat.{ℕ, ◌+◌, ◌*◌}
 use lib.IntN.{ℤ, pos}
 use lib.Ieee.{Float, binary64, neg, sum, sub, lt, le, eq, is_nan, fits, round, of_int, to_bits}
+use Rattle.std.specs.Prelude.{Err}
 use Rattle.sedona_geometry.specs.Float.{min_num, max_num}
 use Rattle.sedona_geometry.specs.Interval as interval
 use Rattle.sedona_geometry.specs.WraparoundInterval as wraparound
 use Rattle.sedona_geometry.specs.Types.{from_bits}
 use Rattle.sedona_geometry.specs.BoundingBox.{Doubles, Canonical, EqualNumbers, xyzm, test_known, intersects, with_x, intersection}
-use Rattle.sedona_geometry.specs.declared.bounding_box.Dimension.{Dimension}
 use Rattle.sedona_geometry.specs.declared.bounding_box.BoundingBox.{BoundingBox}
 use Rattle.sedona_geometry.proofs.Canonical.{xyzm_canonical}
 use Rattle.sedona_geometry.proofs.Instances as zeros
@@ -18,15 +19,10 @@ use Rattle.sedona_expr.specs.Statistics as statistics
 use Rattle.sedona_expr.specs.Tables.{box_with, box_at, types_at, table, records, by_position}
 use Rattle.sedona_expr.specs.Refusals.{good_flag, or_else, words_refusal, table_refusal, refusal}
 use Rattle.sedona_expr.specs.Calls.{outcome, evaluate}
-use Rattle.sedona_expr.specs.declared.spatial_filter.Evaluation.{Evaluation}
-use Rattle.sedona_expr.specs.declared.statistics.Bbox.{Bbox}
-use Rattle.sedona_expr.specs.declared.statistics.GeometryTypes.{GeometryTypes}
-use Rattle.sedona_expr.specs.declared.statistics.Total.{Total}
-use Rattle.sedona_expr.specs.declared.statistics.Extent.{Extent}
 use Rattle.sedona_expr.specs.declared.statistics.GeoStatistics.{GeoStatistics}
 use Rattle.sedona_expr.proofs.Instances.{reading}
 use Rattle.scan_tariff.specs.Tariff as scan
-use Rattle.scan_tariff.specs.declared.tariff.Fee.{Fee}
+use Rattle.scan_tariff.specs.Tariff.{Fee}
 use Rattle.johikape.specs.Boxes as box
 use Rattle.johikape.specs.Filters.{code, decode}
 use Rattle.johikape.specs.Records as rec
@@ -35,19 +31,19 @@ use Rattle.johikape.proofs.Canonical.{same_bytes}
 use Rattle.johikape.proofs.ThereAndBack.{box_back_same, record_back_same}
 
 abbrev of_minus : BoundingBox
-of_minus = xyzm zeros.signed_x zeros.signed (Dimension.Known zeros.signed) Dimension.Missing
+of_minus = xyzm zeros.signed_x zeros.signed (Some zeros.signed) None
 
 abbrev of_plus : BoundingBox
-of_plus = xyzm zeros.unsigned_x zeros.unsigned (Dimension.Known zeros.unsigned) Dimension.Missing
+of_plus = xyzm zeros.unsigned_x zeros.unsigned (Some zeros.unsigned) None
 
 minus_canonical : Canonical of_minus
-minus_canonical = xyzm_canonical zeros.signed_x zeros.signed (Dimension.Known zeros.signed) Dimension.Missing
+minus_canonical = xyzm_canonical zeros.signed_x zeros.signed (Some zeros.signed) None
 
-pub box_crosses : box.read (box.doubles of_minus) (box.flag of_minus) ≡ Bbox.Known of_minus
+pub box_crosses : box.read (box.doubles of_minus) (box.flag of_minus) ≡ Some of_minus
 box_crosses = box_back_same of_minus minus_canonical
 
 abbrev with_box : GeoStatistics
-with_box = reading (Bbox.Known of_minus) GeometryTypes.Missing (pos 3)
+with_box = reading (Some of_minus) None (pos 3)
 
 pub record_crosses : rec.read_parts (rec.written with_box) ≡ with_box
 record_crosses = record_back_same with_box minus_canonical
@@ -63,7 +59,7 @@ equal_numbers = record { x = record { lo = refl; hi = refl }; y = record { lo = 
 pub one_key : (map (to_bits binary64) (box.doubles of_minus) ≡ map (to_bits binary64) (box.doubles of_plus)) × (box.flag of_minus ≡ box.flag of_plus)
 one_key =
     same_bytes {a = of_minus} {b = of_plus} doubles doubles minus_canonical
-    (xyzm_canonical zeros.unsigned_x zeros.unsigned (Dimension.Known zeros.unsigned) Dimension.Missing) equal_numbers
+    (xyzm_canonical zeros.unsigned_x zeros.unsigned (Some zeros.unsigned) None) equal_numbers
 
 -- ---- fees
 abbrev costs : ℕ → Fee
@@ -128,15 +124,15 @@ numbered_doubles = map (λ n. of_int binary64 (pos n)) (0 ∷ 1 ∷ 2 ∷ 3 ∷ 
 abbrev with_flags : ℕ → GeoStatistics
 with_flags f = rec.read numbered_doubles (pos 0 ∷ pos 1 ∷ pos 2 ∷ pos 3 ∷ pos 4 ∷ pos 5 ∷ pos 6 ∷ []) 5 f
 
-pub parts_numbered : ((with_flags 8).geometry_types ≡ GeometryTypes.Known (from_bits 5)) × ((with_flags 16).total_geometries ≡ Total.Known (pos 0))
-    × ((with_flags 32).total_size_bytes ≡ Total.Known (pos 1)) × ((with_flags 64).total_points ≡ Total.Known (pos 2))
-    × ((with_flags 128).puntal_count ≡ Total.Known (pos 3)) × ((with_flags 256).lineal_count ≡ Total.Known (pos 4))
-    × ((with_flags 512).polygonal_count ≡ Total.Known (pos 5)) × ((with_flags 1024).collection_count ≡ Total.Known (pos 6))
-    × ((with_flags 2048).total_envelope_width ≡ Extent.Known (of_int binary64 (pos 8))) × ((with_flags 4096).total_envelope_height ≡ Extent.Known (of_int binary64 (pos 9)))
+pub parts_numbered : ((with_flags 8).geometry_types ≡ Some (from_bits 5)) × ((with_flags 16).total_geometries ≡ Some (pos 0))
+    × ((with_flags 32).total_size_bytes ≡ Some (pos 1)) × ((with_flags 64).total_points ≡ Some (pos 2))
+    × ((with_flags 128).puntal_count ≡ Some (pos 3)) × ((with_flags 256).lineal_count ≡ Some (pos 4))
+    × ((with_flags 512).polygonal_count ≡ Some (pos 5)) × ((with_flags 1024).collection_count ≡ Some (pos 6))
+    × ((with_flags 2048).total_envelope_width ≡ Some (of_int binary64 (pos 8))) × ((with_flags 4096).total_envelope_height ≡ Some (of_int binary64 (pos 9)))
 unfolding rec.read
 parts_numbered = (refl, refl, refl, refl, refl, refl, refl, refl, refl, refl)
 
 -- ---- an answer is told from a refusal: a filter that is refused by 4
-pub told_apart : ◌≡◌ {A = Evaluation} (decode (code (evaluate by_position (table [] [] []) (records [] [] [] [])))) (Evaluation.Refused 4)
+pub told_apart : decode (code (evaluate by_position (table [] [] []) (records [] [] [] []))) ≡ Err 4
 unfolding or_else words_refusal table_refusal refusal outcome
 told_apart = refl

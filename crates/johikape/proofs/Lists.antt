@@ -13,11 +13,16 @@ use lib.Seq.{take-length}
 use borrow.Author.Tests.{eq-eqb, ne_eqb, eqb-true}
 use Rattle.sedona_geometry.specs.Lists.{are_all}
 use Rattle.sedona_expr.specs.Error as error
-use Rattle.sedona_expr.specs.Statistics.{start, step, fold_from, fold}
+use Rattle.std.specs.Prelude.{Ok, Err, Option, Some, None}
+use Rattle.std.specs.Option.{unwrap_or}
+use Rattle.sedona_expr.specs.declared.statistics.GeoStatistics.{GeoStatistics}
+use Rattle.sedona_expr.specs.Statistics.{start, step, folded, fold_from, fold, unspecified}
+use Rattle.sedona_expr.specs.declared.error.Refusal.{Refusal}
+use Rattle.sedona_expr.proofs.Checked.{refusal_stays}
 use Rattle.sedona_expr.specs.Refusals.{refuse_if}
-use Rattle.sedona_expr.specs.declared.statistics.Folded.{Folded}
+use Rattle.sedona_expr.specs.Statistics.{Folded}
 use Rattle.johikape.specs.Within.{Fit, FoldedTo}
-use Rattle.johikape.specs.Records.{width, Lists, read, records, good_flags, lists_refusal}
+use Rattle.johikape.specs.Records.{width, Lists, read, from, records, good_flags, lists_refusal}
 
 -- ---- k elements for each of f
 module _ (k d f : ℕ) (p : 0 < k) where
@@ -69,3 +74,16 @@ folded_all l f i h F = rw none at F.rest
   where
     none : length l.flags - i ≡ 0
     none = omega arith
+
+-- a merge that is refused refuses the fold of all
+pub refused_all : (l : Lists) (e : Refusal) (i : ℕ) → FoldedTo l (folded (Err e)) i → folded (Err e) ≡ fold (records l)
+refused_all l e i F = sym (refusal_stays e (from l i (length l.flags - i))) ∙ F.rest
+
+-- the number and the record of a fold that is not refused
+pub number_of_fold : (o : Option GeoStatistics) → (folded (Ok o)).number ≡ 0
+number_of_fold None = refl
+number_of_fold (Some r) = refl
+
+pub record_of_fold : (o : Option GeoStatistics) → (folded (Ok o)).rec ≡ unwrap_or o unspecified
+record_of_fold None = refl
+record_of_fold (Some r) = refl

@@ -1,5 +1,6 @@
 -- What crosses comes back: a box, and a record, that is put into C's lists and read again is the same, with +0 for zero; and so it is itself where it
 -- has no −0, as every one has that a call gives. Assumes nothing.
+use Rattle.std.specs.Prelude.{Option, Some, None, ℤ}
 use mathlib.Core.Path.{◌≡◌, refl, sym, ap, ◌∙◌}
 use mathlib.Core.List.{List, [], ◌∷◌}
 use mathlib.Core.Bool.{Bool, true, false, cond}
@@ -10,7 +11,6 @@ use borrow.Author.Tests.{eq-eqb, ne_eqb}
 use lib.ListN.{get_or}
 use lib.Ieee.{Float}
 use Rattle.sedona_geometry.specs.BoundingBox.{Canonical, plus_zero}
-use Rattle.sedona_geometry.specs.declared.bounding_box.Dimension.{Dimension}
 use Rattle.sedona_geometry.specs.declared.bounding_box.BoundingBox.{BoundingBox}
 use Rattle.sedona_geometry.proofs.Canonical.{stays_box}
 use Rattle.sedona_geometry.proofs.PlusZero.{twice}
@@ -19,41 +19,39 @@ use Rattle.sedona_expr.proofs.Canonical.{stays_record}
 use Rattle.sedona_geometry.specs.Bits.{has_bit}
 use Rattle.sedona_expr.specs.Tables.{flag_limit, boxes, box_with, box_at}
 use Rattle.sedona_expr.specs.Refusals.{good_flag}
-use Rattle.sedona_expr.specs.declared.statistics.Bbox.{Bbox}
-use Rattle.sedona_expr.specs.declared.statistics.GeometryTypes.{GeometryTypes}
-use Rattle.sedona_expr.specs.declared.statistics.Total.{Total}
-use Rattle.sedona_expr.specs.declared.statistics.Extent.{Extent}
 use Rattle.sedona_expr.specs.declared.statistics.GeoStatistics.{GeoStatistics}
 use Rattle.johikape.specs.Boxes as box
 use Rattle.johikape.specs.Records as rec
+use Rattle.sedona_geometry.specs.declared.types.GeometryTypeAndDimensionsSet.{GeometryTypeAndDimensionsSet}
+use Rattle.sedona_geometry.specs.declared.interval.Interval.{Interval}
 
 -- ---- a box
-abbrev with : BoundingBox → Dimension → Dimension → BoundingBox
+abbrev with : BoundingBox → Option Interval → Option Interval → BoundingBox
 with b z m = record { x = b.x; y = b.y; z = z; m = m }
 
-pub box_back : (b : BoundingBox) → box.read (box.doubles b) (box.flag b) ≡ Bbox.Known (plus_zero b)
+pub box_back : (b : BoundingBox) → box.read (box.doubles b) (box.flag b) ≡ Some (plus_zero b)
 unfolding box.read good_flag box_at box_with
 box_back b = go b.z b.m
   where
-    go : (z m : Dimension) → box.read (box.doubles (with b z m)) (box.flag (with b z m)) ≡ Bbox.Known (plus_zero (with b z m))
-    go Dimension.Missing Dimension.Missing = simp twice
-    go Dimension.Missing (Dimension.Known j) = simp twice
-    go (Dimension.Known i) Dimension.Missing = simp twice
-    go (Dimension.Known i) (Dimension.Known j) = simp twice
+    go : (z m : Option Interval) → box.read (box.doubles (with b z m)) (box.flag (with b z m)) ≡ Some (plus_zero (with b z m))
+    go None None = simp twice
+    go None (Some j) = simp twice
+    go (Some i) None = simp twice
+    go (Some i) (Some j) = simp twice
 
-pub box_back_same : (b : BoundingBox) → Canonical b → box.read (box.doubles b) (box.flag b) ≡ Bbox.Known b
-box_back_same b c = box_back b ∙ ap (λ (d : BoundingBox). Bbox.Known d) (stays_box c)
+pub box_back_same : (b : BoundingBox) → Canonical b → box.read (box.doubles b) (box.flag b) ≡ Some b
+box_back_same b c = box_back b ∙ ap (λ (d : BoundingBox). Some d) (stays_box c)
 
 -- ---- a record: behind the box's flags a bit each for its parts
-bbox_small : (b : Bbox) → rec.bbox_flag b < flag_limit
-bbox_small Bbox.Missing = omega arith
-bbox_small (Bbox.Known b) = go b.z b.m
+bbox_small : (b : Option BoundingBox) → rec.bbox_flag b < flag_limit
+bbox_small None = omega arith
+bbox_small (Some b) = go b.z b.m
   where
-    go : (z m : Dimension) → 1 + box.known z 2 + box.known m 4 < flag_limit
-    go Dimension.Missing Dimension.Missing = omega arith
-    go Dimension.Missing (Dimension.Known j) = omega arith
-    go (Dimension.Known i) Dimension.Missing = omega arith
-    go (Dimension.Known i) (Dimension.Known j) = omega arith
+    go : (z m : Option Interval) → 1 + box.known z 2 + box.known m 4 < flag_limit
+    go None None = omega arith
+    go None (Some j) = omega arith
+    go (Some i) None = omega arith
+    go (Some i) (Some j) = omega arith
 
 behind_box : {low : ℕ} (n : ℕ) → low < flag_limit → (low + flag_limit * n) / flag_limit ≡ n
 behind_box n h = omega (arith, h)
@@ -76,29 +74,29 @@ bit_of (b ∷ bs) (suc k) = rw (halved b) (bit_of bs k)
         ∙ ap (λ (n : ℕ). n / 2 ^ k) (omega (arith, bit_small b))
 
 -- a part is what its bit says
-types_back : (t : GeometryTypes) {k : Bool} → k ≡ rec.knows_types t → rec.types_of k (rec.types t) ≡ t
-types_back GeometryTypes.Missing e = rw e
-types_back (GeometryTypes.Known s) e = rw e
+types_back : (t : Option GeometryTypeAndDimensionsSet) {k : Bool} → k ≡ rec.knows_types t → rec.types_of k (rec.types t) ≡ t
+types_back None e = rw e
+types_back (Some s) e = rw e
 
-total_back : (t : Total) {k : Bool} → k ≡ rec.knows_total t → rec.total_of k (rec.total t) ≡ t
-total_back Total.Missing e = rw e
-total_back (Total.Known n) e = rw e
+total_back : (t : Option ℤ) {k : Bool} → k ≡ rec.knows_total t → rec.total_of k (rec.total t) ≡ t
+total_back None e = rw e
+total_back (Some n) e = rw e
 
-extent_back : (x : Extent) {k : Bool} → k ≡ rec.knows_extent x → rec.extent_of k (rec.extent x) ≡ x
-extent_back Extent.Missing e = rw e
-extent_back (Extent.Known x) e = rw e
+extent_back : (x : Option Float) {k : Bool} → k ≡ rec.knows_extent x → rec.extent_of k (rec.extent x) ≡ x
+extent_back None e = rw e
+extent_back (Some x) e = rw e
 
 -- the box, of the first eight of any doubles that begin with its own
-bbox_back : (c : Bbox) (v w : Float) → box_at (boxes (rec.box_doubles c v w) (rec.bbox_flag c ∷ [])) 0 ≡ statistics.plus_zero_where_known c
+bbox_back : (c : Option BoundingBox) (v w : Float) → box_at (boxes (rec.box_doubles c v w) (rec.bbox_flag c ∷ [])) 0 ≡ statistics.plus_zero_where_known c
 unfolding box_at box_with
-bbox_back Bbox.Missing v w = refl
-bbox_back (Bbox.Known b) v w = go b.z b.m
+bbox_back None v w = refl
+bbox_back (Some b) v w = go b.z b.m
   where
-    go : (z m : Dimension) → box_at (boxes (rec.box_doubles (Bbox.Known (with b z m)) v w) (rec.bbox_flag (Bbox.Known (with b z m)) ∷ [])) 0 ≡ Bbox.Known (plus_zero (with b z m))
-    go Dimension.Missing Dimension.Missing = simp twice
-    go Dimension.Missing (Dimension.Known j) = simp twice
-    go (Dimension.Known i) Dimension.Missing = simp twice
-    go (Dimension.Known i) (Dimension.Known j) = simp twice
+    go : (z m : Option Interval) → box_at (boxes (rec.box_doubles (Some (with b z m)) v w) (rec.bbox_flag (Some (with b z m)) ∷ [])) 0 ≡ Some (plus_zero (with b z m))
+    go None None = simp twice
+    go None (Some j) = simp twice
+    go (Some i) None = simp twice
+    go (Some i) (Some j) = simp twice
 
 -- ---- the whole record
 module _ (s : GeoStatistics) where

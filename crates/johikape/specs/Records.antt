@@ -1,6 +1,7 @@
 -- How a record crosses: as ten doubles (the eight of its box, the two lengths), seven totals, a type set, and flags: 1, 2, 4 of the box, and behind
 -- them a bit each for the types (8), the totals (16 to 1,024) and the lengths (2,048 and 4,096). 0 stands for what is missing.
-use Rattle.std.specs.Prelude.{◌≡◌, Bool, true, false, not, ◌&&◌, ◌||◌, cond, List, [], ◌∷◌, ℕ, zero, suc, ◌+◌, ◌*◌, ◌/◌, ◌%◌, eqb, ltb, ℤ, pos, length, get_or, drop, Float}
+use Rattle.std.specs.Prelude.{◌≡◌, Bool, true, not, ◌&&◌, ◌||◌, cond, List, [], ◌∷◌, ℕ, zero, suc, ◌+◌, ◌*◌, ◌/◌, ◌%◌, eqb, ltb, ℤ, pos, length, get_or, drop, Float, Option, Some, None, is_some}
+use Rattle.std.specs.Option.{unwrap_or}
 use Rattle.std.specs.Float.{nan, binary64}
 use Rattle.std.specs.Float.Ieee.{of_bits}
 use Rattle.sedona_geometry.specs.Lists.{are_all}
@@ -14,13 +15,10 @@ use Rattle.sedona_expr.specs.Error as error
 use Rattle.sedona_expr.specs.Statistics as statistics
 use Rattle.sedona_expr.specs.Tables.{ends, flag_limit, boxes, box_at}
 use Rattle.sedona_expr.specs.Refusals.{good_flag, refuse_if}
-use Rattle.sedona_expr.specs.declared.statistics.Bbox.{Bbox}
-use Rattle.sedona_expr.specs.declared.statistics.GeometryTypes.{GeometryTypes}
-use Rattle.sedona_expr.specs.declared.statistics.Total.{Total}
-use Rattle.sedona_expr.specs.declared.statistics.Extent.{Extent}
 use Rattle.sedona_expr.specs.declared.statistics.GeoStatistics.{GeoStatistics}
-use Rattle.sedona_expr.specs.declared.statistics.Merged.{Merged}
+use Rattle.sedona_expr.specs.Statistics.{Merged}
 use Rattle.johikape.specs.Boxes.{low, high, flag, unless_refused}
+use Rattle.sedona_geometry.specs.declared.types.GeometryTypeAndDimensionsSet.{GeometryTypeAndDimensionsSet}
 
 -- ---- from C
 
@@ -32,14 +30,14 @@ width = ends + 2
 abbrev pub has : ℕ → ℕ → Bool
 has flags k = has_bit (flags / flag_limit) k
 
-abbrev pub types_of : Bool → ℕ → GeometryTypes
-types_of known n = cond known (GeometryTypes.Known (set.from_bits n)) GeometryTypes.Missing
+abbrev pub types_of : Bool → ℕ → Option GeometryTypeAndDimensionsSet
+types_of known n = cond known (Some (set.from_bits n)) None
 
-abbrev pub total_of : Bool → ℤ → Total
-total_of known n = cond known (Total.Known n) Total.Missing
+abbrev pub total_of : Bool → ℤ → Option ℤ
+total_of known n = cond known (Some n) None
 
-abbrev pub extent_of : Bool → Float → Extent
-extent_of known x = cond known (Extent.Known x) Extent.Missing
+abbrev pub extent_of : Bool → Float → Option Float
+extent_of known x = cond known (Some x) None
 
 unfoldable pub read : List Float → List ℤ → ℕ → ℕ → GeoStatistics
 read ds ts n f = record {
@@ -63,42 +61,37 @@ good_flags f = ltb f (flag_limit * 1024) && good_flag true (f % flag_limit)
 -- ---- to C
 
 -- The box, and zeros for none.
-abbrev pub or_zero : Bbox → BoundingBox
-or_zero Bbox.Missing = bounding_box.xy (wraparound.new (of_bits binary64 0) (of_bits binary64 0)) (interval.new (of_bits binary64 0) (of_bits binary64 0))
-or_zero (Bbox.Known b) = b
+abbrev pub or_zero : Option BoundingBox → BoundingBox
+or_zero None = bounding_box.xy (wraparound.new (of_bits binary64 0) (of_bits binary64 0)) (interval.new (of_bits binary64 0) (of_bits binary64 0))
+or_zero (Some b) = b
 
-abbrev pub extent : Extent → Float
-extent Extent.Missing = of_bits binary64 0
-extent (Extent.Known x) = x
+abbrev pub extent : Option Float → Float
+extent e = unwrap_or e (of_bits binary64 0)
 
-abbrev pub total : Total → ℤ
-total Total.Missing = pos 0
-total (Total.Known n) = n
+abbrev pub total : Option ℤ → ℤ
+total t = unwrap_or t (pos 0)
 
-abbrev pub types : GeometryTypes → ℕ
-types GeometryTypes.Missing = 0
-types (GeometryTypes.Known s) = set.bits s
+abbrev pub types : Option GeometryTypeAndDimensionsSet → ℕ
+types None = 0
+types (Some s) = set.bits s
 
 -- The flags of a box, and 0 for none.
-abbrev pub bbox_flag : Bbox → ℕ
-bbox_flag Bbox.Missing = 0
-bbox_flag (Bbox.Known b) = flag b
+abbrev pub bbox_flag : Option BoundingBox → ℕ
+bbox_flag None = 0
+bbox_flag (Some b) = flag b
 
 -- Which parts are known.
-abbrev pub knows_types : GeometryTypes → Bool
-knows_types GeometryTypes.Missing = false
-knows_types (GeometryTypes.Known s) = true
+abbrev pub knows_types : Option GeometryTypeAndDimensionsSet → Bool
+knows_types t = is_some t
 
-abbrev pub knows_total : Total → Bool
-knows_total Total.Missing = false
-knows_total (Total.Known z) = true
+abbrev pub knows_total : Option ℤ → Bool
+knows_total t = is_some t
 
-abbrev pub knows_extent : Extent → Bool
-knows_extent Extent.Missing = false
-knows_extent (Extent.Known x) = true
+abbrev pub knows_extent : Option Float → Bool
+knows_extent t = is_some t
 
 -- The doubles of the box, and the two lengths.
-abbrev pub box_doubles : Bbox → Float → Float → List Float
+abbrev pub box_doubles : Option BoundingBox → Float → Float → List Float
 box_doubles c w h =
     let b = or_zero c in
     b.x.inner.lo ∷ b.x.inner.hi ∷ b.y.lo ∷ b.y.hi ∷ low b.z ∷ high b.z ∷ low b.m ∷ high b.m ∷ w ∷ h ∷ []

@@ -1,12 +1,11 @@
 -- How fees cross: rates as three numbers, sizes as a list of whole numbers and a list of known bytes, and cents where they are left.
-use Rattle.std.specs.Prelude.{◌≡◌, not, ◌||◌, cond, List, [], ◌∷◌, ℕ, eqb, ltb, ℤ, length}
+use Rattle.std.specs.Prelude.{◌≡◌, not, ◌||◌, cond, List, [], ◌∷◌, ℕ, eqb, ltb, ℤ, length, Option}
 use Rattle.sedona_geometry.specs.Lists.{are_all}
 use Rattle.sedona_expr.specs.Error as error
 use Rattle.sedona_expr.specs.Refusals.{refuse_if}
-use Rattle.sedona_expr.specs.declared.statistics.Total.{Total}
 use Rattle.scan_tariff.specs.Tariff as scan
 use Rattle.scan_tariff.specs.declared.tariff.Rates.{Rates}
-use Rattle.scan_tariff.specs.declared.tariff.Fee.{Fee}
+use Rattle.scan_tariff.specs.Tariff.{Fee}
 use Rattle.johikape.specs.Boxes.{unless_refused}
 use Rattle.johikape.specs.Records.{Parts, read_parts, good_flags, total_of}
 
@@ -22,7 +21,7 @@ unfoldable pub fee_of_record : Parts → Rates → Fee
 fee_of_record p r = cond (good_flags p.flags) (scan.fee_of_record (read_parts p) r) (scan.refused error.bad_lists)
 
 -- A size for each known byte: 1 where it is known.
-abbrev pub sizes : List ℤ → List ℕ → List Total
+abbrev pub sizes : List ℤ → List ℕ → List (Option ℤ)
 sizes [] ks = []
 sizes (z ∷ zs) [] = []
 sizes (z ∷ zs) (k ∷ ks) = total_of (eqb k 1) z ∷ sizes zs ks

@@ -1,6 +1,6 @@
 -- How the box and the type of a geometry cross: as a box does, and the set's bits.
 use Rattle.std.specs.Prelude.{◌≡◌, List, ℕ, Float}
-use Rattle.sedona_wkb.specs.declared.bounds.WkbBounds.{WkbBounds}
+use Rattle.sedona_wkb.specs.Bounds.{WkbBounds}
 use Rattle.johikape.specs.Boxes as boxes
 
 -- The number is answered, and the box and the set left where it is 0: `ds`, `f` and `t` become `es`, `g` and `u`.

@@ -4,7 +4,8 @@ ghost use Rattle.sedona_geometry.specs.Interval as interval;
 ghost use Rattle.sedona_geometry.specs.WraparoundInterval as wraparound;
 ghost use Rattle.johikape.specs.Intervals as intervals;
 
-use sedona_geometry::interval::{Intersection, Interval, WraparoundInterval};
+use sedona_geometry::error::Numbered;
+use sedona_geometry::interval::{Interval, WraparoundInterval};
 
 #[repr(C)]
 #[derive(Clone, Copy)]
@@ -167,24 +168,21 @@ pub extern "C" fn johikape_x_mid(a: JohikapeInterval) -> f64
 pub extern "C" fn johikape_x_merge(a: JohikapeInterval, b: JohikapeInterval) -> JohikapeInterval
     ensures { result ≡ intervals.ends (wraparound.merge_interval (intervals.x a) (intervals.x b)).inner }
 {
-    let merged = x(a).merge_interval(x(b));
-    ends(merged.inner)
+    ends(x(a).merge_interval(x(b)).inner)
 }
 
 #[unsafe(no_mangle)]
 pub extern "C" fn johikape_x_merge_value(a: JohikapeInterval, value: f64) -> JohikapeInterval
     ensures { result ≡ intervals.ends (wraparound.merge_value (intervals.x a) value).inner }
 {
-    let merged = x(a).merge_value(value);
-    ends(merged.inner)
+    ends(x(a).merge_value(value).inner)
 }
 
 #[unsafe(no_mangle)]
 pub extern "C" fn johikape_x_expand_by(a: JohikapeInterval, distance: f64) -> JohikapeInterval
     ensures { result ≡ intervals.ends (wraparound.expand_by (intervals.x a) distance).inner }
 {
-    let expanded = x(a).expand_by(distance);
-    ends(expanded.inner)
+    ends(x(a).expand_by(distance).inner)
 }
 
 // What both hold, into `lo` and `hi`; refused with 1 where that has two parts.
@@ -198,12 +196,11 @@ pub extern "C" fn johikape_x_intersection(
     ensures { intervals.Gives (wraparound.intersection (intervals.x a) (intervals.x b)) result lo.old lo.new hi.old hi.new }
 {
     match x(a).intersection(x(b)) {
-        Intersection::Refused(number) => number,
-        Intersection::Single(met) => {
-            let inner = met.inner;
-            *lo = inner.lo;
-            *hi = inner.hi;
+        Ok(met) => {
+            *lo = met.inner.lo;
+            *hi = met.inner.hi;
             0
         }
+        Err(e) => e.number(),
     }
 }

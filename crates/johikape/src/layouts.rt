@@ -5,34 +5,27 @@ ghost use Rattle.johikape.specs.Boxes as boxes;
 ghost use Rattle.johikape.specs.Layouts as layouts;
 
 use crate::boxes::{Ends, put_box, read};
-use geoparquet_bbox::layout::{NumberedArray, from_geoparquet, to_geoparquet};
-use sedona_expr::error::BAD_LISTS;
-use sedona_expr::statistics::Bbox;
+use geoparquet_bbox::error as layouts;
+use geoparquet_bbox::layout::{BboxArray, from_geoparquet, to_geoparquet};
+use sedona_expr::error::Refusal;
+use sedona_geometry::error::Numbered;
 
 // Room for an array.
 pub type Six = [f64; 6];
 
-// The box as an array, or 8.
-fn laid_out(a: Bbox) -> NumberedArray
-    ensures { result ≡ layouts.laid_out a }
+// Puts the array, where nothing refuses it, and answers the number.
+fn put_array(array: &mut Six, count: &mut usize, a: Result<BboxArray, layouts::Refusal>) -> u32
+    ensures { layouts.Gives (layout.told a) result array.old array.new count.old count.new }
 {
-    let Bbox::Known(bounds) = a else {
-        return NumberedArray::refused(BAD_LISTS);
-    };
-    to_geoparquet(bounds)
-}
-
-// Puts the array, where the number is 0, and answers the number.
-fn put_array(array: &mut Six, count: &mut usize, a: NumberedArray) -> u32
-    ensures { layouts.Gives a result array.old array.new count.old count.new }
-{
-    if a.number != 0 {
-        return a.number;
+    match a {
+        Ok(a) => {
+            let numbers = a.numbers;
+            *array = numbers;
+            *count = a.count;
+            0
+        }
+        Err(e) => e.number(),
     }
-    let numbers = a.numbers;
-    *array = numbers;
-    *count = a.count;
-    0
 }
 
 // The box as an array, with 0 behind it, and how many numbers it has; 0, or 8, 13 or 14.
@@ -45,8 +38,10 @@ pub extern "C" fn johikape_box_to_geoparquet(
 ) -> u32
     ensures { layouts.Gives (layouts.laid_out (boxes.read ends.now flag)) result array.old array.new count.old count.new }
 {
-    let bounds = read(ends, flag);
-    put_array(array, count, laid_out(bounds))
+    let Some(bounds) = read(ends, flag) else {
+        return Refusal::BadLists.number();
+    };
+    put_array(array, count, to_geoparquet(bounds))
 }
 
 // The box of an array; 0, or 12 or 14.

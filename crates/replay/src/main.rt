@@ -2,6 +2,7 @@
 // byte is copied as it is read; before the end of a line comes the reply to it.
 #![tactic(auto)]
 
+mod answer;
 mod filters;
 mod kept;
 mod layouts;
@@ -9,129 +10,99 @@ mod lent;
 mod line;
 mod many;
 mod names;
-mod record_text;
 mod records;
 mod tables;
 mod tariff;
 mod wkb;
 
 use kept::Kept;
-use line::{Line, SIZE, push, take_line};
-use replay_text::output::{Buffer, flush, put};
-use std::io::{Error, Read, Result, Stdin};
-use tables::{MOST_NODE_WORDS, Nodes};
+use line::{Line, Reply};
+use replay_text::output::Output;
+use replay_text::scan::find;
+use std::io::{Read, Result, Stdin, Stdout, Write};
+
+// How many bytes are read at once.
+const CHUNK: usize = 65536;
+
+// What was answered is written out before a failure of the input is told.
+fn main(rt: HostRuntime) -> Result<()> {
+    let mut replay = Replay::new(rt.stdout());
+    let read = replay.take_input(rt.stdin());
+    replay.finish()?;
+    read
+}
 
 // What is kept from one byte of the input to the next.
-#[derive(Clone, Copy)]
-struct State {
+#[derive(Drop)]
+struct Replay {
     // What lines left for later ones.
     kept: Kept,
-    // How long the line is so far.
-    length: usize,
-    // How much of the output buffer is filled.
-    filled: usize,
-    // Whether the input has ended.
-    is_over: bool,
-    // Of a read that failed. It ends the input too.
-    failure: Option<Error>,
+    // The line so far.
+    line: Line,
+    out: Output,
 }
 
-impl State {
+impl Replay {
     // Before the first byte.
-    fn new() -> State {
-        State {
-            kept: Kept::none(),
-            length: 0,
-            filled: 0,
-            is_over: false,
-            failure: None,
+    fn new(stdout: Stdout) -> Replay {
+        Replay {
+            kept: Kept::default(),
+            line: Line::new(),
+            out: Output::new(stdout),
         }
     }
-}
 
-// Has the buffers that the rest borrows.
-fn main(rt: HostRuntime) -> Result<()> {
-    let mut line = [0u8; SIZE];
-    let mut out = Buffer::new(rt.stdout());
-    let mut nodes = [0; MOST_NODE_WORDS];
-    run(rt.stdin(), &mut line, &mut out, &mut nodes)
-}
-
-// Takes the whole input. Nothing says that it ends, and a proved loop has to: so the loop has a number of
-// turns that no run uses up. What was answered is written out before a failure of the input is told.
-fn run(stdin: Stdin, line: &mut Line, out: &mut Buffer, nodes: &mut Nodes) -> Result<()> {
-    let mut state = State::new();
-    for _ in 0..u64::MAX {
-        if state.is_over {
-            break;
+    // Takes the whole input. Nothing says that it ends, and a proved loop has to: so the loop has a number
+    // of turns that no run uses up.
+    fn take_input(&mut self, mut stdin: Stdin) -> Result<()> {
+        let mut chunk = [0; CHUNK];
+        for _ in 0..u64::MAX {
+            let count = stdin.read(&mut chunk)?;
+            if count == 0 {
+                break;
+            }
+            self.take_bytes(&chunk[..count]);
         }
-        state = take_chunk(state, stdin, line, out, nodes);
+        Ok(())
     }
-    if state.length > 0 {
-        state = end_line(state, line, out, nodes);
-    }
-    flush(out, state.filled)?;
-    match state.failure {
-        Some(failure) => Err(failure),
-        None => Ok(()),
-    }
-}
 
-// Reads once, and takes what came.
-fn take_chunk(
-    before: State,
-    mut stdin: Stdin,
-    line: &mut Line,
-    out: &mut Buffer,
-    nodes: &mut Nodes,
-) -> State {
-    let mut chunk = io::large_buffer();
-    match stdin.read(&mut chunk) {
-        Ok(0) => {
-            let mut state = before;
-            state.is_over = true;
-            state
-        }
-        Ok(count) => take_bytes(&chunk[..count], before, line, out, nodes),
-        Err(failure) => {
-            let mut state = before;
-            state.is_over = true;
-            state.failure = Some(failure);
-            state
+    // Copies the bytes, and replies to each line that they end.
+    fn take_bytes(&mut self, bytes: &[u8]) {
+        let mut from = 0;
+        while from < bytes.len() {
+            let end = find(bytes, from, b'\n');
+            self.copy(&bytes[from..end]);
+            if end < bytes.len() {
+                self.end_line();
+            }
+            from = end + 1;
         }
     }
-}
 
-// Copies the bytes, and replies to each line that they end.
-fn take_bytes(
-    bytes: &[u8],
-    before: State,
-    line: &mut Line,
-    out: &mut Buffer,
-    nodes: &mut Nodes,
-) -> State {
-    let mut state = before;
-    for i in 0..bytes.len() {
-        let byte = bytes[i];
-        if byte == b'\n' {
-            state = end_line(state, line, out, nodes);
-        } else {
-            state.length = push(line, state.length, byte);
-            state.filled = put(out, state.filled, byte);
-        }
+    // Copies bytes of a line. A full line stays as it is.
+    fn copy(&mut self, bytes: &[u8]) {
+        let _ = self.line.write(bytes);
+        self.out.put(bytes);
     }
-    state
-}
 
-// Puts the reply to a line, and the line's end.
-fn end_line(before: State, line: &Line, out: &mut Buffer, nodes: &mut Nodes) -> State {
-    let outcome = take_line(line, before.length, before.kept, nodes, out, before.filled);
-    let kept = outcome.kept;
-    State {
-        kept,
-        length: 0,
-        filled: put(out, outcome.filled, b'\n'),
-        is_over: before.is_over,
-        failure: before.failure,
+    // Puts the reply to the line, and the line's end.
+    fn end_line(&mut self) {
+        let reply = Reply::to(&self.line, &mut self.kept);
+        self.line.clear();
+        self.out.print(reply);
+        self.out.put(b"\n");
+    }
+
+    // Ends the last line, where it has no end, and writes out what waits.
+    fn finish(mut self) -> Result<()> {
+        if !self.line.is_empty() {
+            self.end_line();
+        }
+        let Replay {
+            kept: _,
+            line: _,
+            out,
+        } = self;
+        out.flush()
     }
 }

@@ -1,54 +1,75 @@
 // The tables that a filter call is lent: nodes, the boxes of literals and of records, the records'
 // types, and names.
-use replay_text::words::{Doubles, Flags, MOST_WORDS, Sets};
+use arrayvec::ArrayVec;
+use replay_text::words::List;
+use sedona_expr::tables::{Records, Table};
 
 // Room for the words of one node more than a filter may have.
-pub const MOST_NODE_WORDS: usize = 4100;
+const MOST_NODE_WORDS: usize = 4100;
 
-pub type Nodes = [u32; MOST_NODE_WORDS];
+pub type Nodes = ArrayVec<u32, MOST_NODE_WORDS>;
 
-// All but the nodes, which are too many to be copied: of them, how many words they are.
-#[derive(Clone, Copy)]
+// At first each table is empty.
+#[derive(Default, Drop)]
 pub struct Tables {
-    pub node_words: usize,
-    pub literals: Doubles,
-    pub literal_flags: Flags,
-    pub records: Doubles,
-    pub record_flags: Flags,
-    pub record_types: Sets,
-    pub types_known: Flags,
-    pub names: Sets,
+    pub nodes: Nodes,
+    pub literals: List<f64>,
+    pub literal_flags: List<u8>,
+    pub records: List<f64>,
+    pub record_flags: List<u8>,
+    pub record_types: List<u32>,
+    pub types_known: List<u8>,
+    pub names: List<u32>,
 }
 
-// Sets the nodes to the words of a line.
-pub fn set_nodes(nodes: &mut Nodes, words: [u32; MOST_WORDS]) {
-    for i in 0..MOST_WORDS {
-        nodes[i] = words[i];
+impl Tables {
+    // The filter, as it is lent.
+    pub fn filter(&self) -> Table<'_> {
+        Table::new(
+            self.nodes.as_slice(),
+            self.literals.as_slice(),
+            self.literal_flags.as_slice(),
+        )
+    }
+
+    // The records, as they are lent.
+    pub fn records(&self) -> Records<'_> {
+        Records::new(
+            self.records.as_slice(),
+            self.record_flags.as_slice(),
+            self.record_types.as_slice(),
+            self.types_known.as_slice(),
+        )
     }
 }
 
-// Sets the nodes to a chain. It hands the answer of its lowest node up to the root: each And has an
-// Unknown beside it, and each Or a LiteralFalse.
-pub fn set_chain(nodes: &mut Nodes) {
-    for at in 0..MOST_NODE_WORDS {
-        nodes[at] = chain_word(at);
-    }
+// So many words of a chain, where there is room for them. A chain hands the answer of its lowest node up
+// to the root: each And has an Unknown beside it, and each Or a LiteralFalse.
+pub fn chain(count: u32) -> Option<Nodes> {
+    let mut nodes = Nodes::new();
+    nodes.extend((0..count).map(chain_word)).ok()?;
+    Some(nodes)
 }
 
 // A word of the chain. Node 0 is an Intersects of the first literal and the first column; from then
 // on an even node pairs the two below it.
-fn chain_word(at: usize) -> u32 {
+fn chain_word(at: u32) -> u32 {
     let node = at / 4;
-    let k = at % 4;
-    if node == 0 {
-        return 0;
+    match (node, at % 4) {
+        (0, _) => 0,
+        (_, 0) => kind(node),
+        (_, 3) => 0,
+        (_, k) if node % 2 == 0 => node + k - 3,
+        _ => 0,
     }
-    if k == 0 {
-        let kinds = [4, 6, 3, 5];
-        return kinds[node % 4];
+}
+
+// The kind of a node behind the first.
+fn kind(node: u32) -> u32 {
+    match node % 4 {
+        0 => 4,
+        1 => 6,
+        2 => 3,
+        _ => 5,
     }
-    if node < 2 || node % 2 == 1 || k == 3 {
-        return 0;
-    }
-    ((node + k - 3) % MOST_NODE_WORDS) as u32
 }

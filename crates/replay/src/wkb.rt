@@ -1,56 +1,44 @@
 // The call of well-known binary: of bytes by their hex digits, with zeros behind them where a case asks
 // for more than a line can spell.
-use crate::filters::put_numbered;
-use crate::names::WKB_BOUNDS;
-use replay_geometry::names::Call;
-use replay_text::output::{Buffer, put, put_decimal};
-use replay_text::read::{Bytes, MOST_BYTES, TypeSet, read_bytes, read_set};
-use replay_text::scan::find;
-use sedona_wkb::bounds::{WkbBounds, wkb_bounds};
+use crate::answer::Answer;
+use crate::line::SIZE;
+use crate::names::CallOfWkb;
+use arrayvec::ArrayVec;
+use replay_text::words::Words;
+use sedona_wkb::bounds::wkb_bounds;
 
-// Puts what the call answers to the rest of a line: digits, or how many bytes there are and digits.
-pub fn put_call_of_wkb(out: &mut Buffer, filled: usize, call: Call, rest: &[u8]) -> usize {
-    let mut bytes = [0; MOST_BYTES];
-    if call.name == WKB_BOUNDS {
-        let digits = read_bytes(&mut bytes, rest);
-        return put_bounds_of(out, filled, &bytes, digits, digits / 2);
-    }
-    if rest.len() == 0 {
-        return put(out, filled, b'?');
-    }
-    let end = find(rest, 1, b' ');
-    let TypeSet::Bits(count) = read_set(&rest[1..end]) else {
-        return put(out, filled, b'?');
+// The bytes that a line spells, two digits each.
+type Spelled = ArrayVec<u8, SPELLED>;
+
+const SPELLED: usize = SIZE / 2;
+
+// The most bytes that a case lends: one more than are read of a geometry.
+const MOST_BYTES: usize = 65537;
+
+// What the call answers to words: digits, or how many bytes there are and digits.
+pub fn answer_of_wkb(call: CallOfWkb, mut words: Words) -> Option<Answer> {
+    let bounds = match call {
+        CallOfWkb::Bounds => {
+            let bytes: Spelled = words.read_bytes()?;
+            wkb_bounds(bytes.as_slice())
+        }
+        CallOfWkb::BoundsOfPadded => {
+            let count: u32 = words.read()?;
+            let spelled: Spelled = words.read_bytes()?;
+            let bytes = padded(spelled.as_slice(), count as usize)?;
+            wkb_bounds(bytes.as_slice())
+        }
     };
-    let digits = read_bytes(&mut bytes, &rest[end..]);
-    put_bounds_of(out, filled, &bytes, digits, count as usize)
+    Some(Answer::Bounds(bounds))
 }
 
-// Puts the answer to the first so many bytes, of which the first are spelled by so many digits.
-fn put_bounds_of(
-    out: &mut Buffer,
-    filled: usize,
-    bytes: &Bytes,
-    digits: usize,
-    count: usize,
-) -> usize {
-    let lent = &bytes[..];
-    if digits % 2 == 1 {
-        return put(out, filled, b'?');
+// So many bytes, of which the first are spelled, where there is room for them.
+fn padded(spelled: &[u8], count: usize) -> Option<ArrayVec<u8, MOST_BYTES>> {
+    if count < spelled.len() {
+        return None;
     }
-    if count < digits / 2 {
-        return put(out, filled, b'?');
-    }
-    if count > lent.len() {
-        return put(out, filled, b'?');
-    }
-    put_bounds(out, filled, wkb_bounds(&lent[0..count]))
-}
-
-// Puts a number, a box and a type set.
-fn put_bounds(out: &mut Buffer, filled: usize, given: WkbBounds) -> usize {
-    let types = given.types;
-    let at = put_numbered(out, filled, given.numbered);
-    let at = put(out, at, b' ');
-    put_decimal(out, at, types.bits() as u64)
+    let mut bytes = ArrayVec::new();
+    bytes.try_extend_from_slice(spelled).ok()?;
+    bytes.extend((spelled.len()..count).map(|_| 0)).ok()?;
+    Some(bytes)
 }

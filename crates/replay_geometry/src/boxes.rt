@@ -1,117 +1,72 @@
-// Boxes as operands: spelled by the words of a line, or numbered among all that are made of a list
-// of intervals. Their fields are filled here, so that -0 comes to the calls as it is spelled.
-ghost use Rattle.std.specs.Prelude.{◌≤◌};
-
-use crate::digits::last_digit;
-use replay_text::words::{Doubles, MOST_WORDS, Words};
-use sedona_geometry::bounding_box::{BoundingBox, Dimension};
+// Boxes as operands: spelled by the words of a line, or each that is made of a list of intervals. Their
+// fields are filled here, so that -0 comes to the calls as it is spelled.
+use replay_text::words::Words;
+use sedona_geometry::bounding_box::BoundingBox;
 use sedona_geometry::interval::{Interval, WraparoundInterval};
+use std::iter::once;
 
-// How many words a box is.
-pub const BOX: usize = 8;
+// The two ends of an interval.
+pub type Ends = [f64; 2];
 
-// How many words two boxes are.
-pub const TWO_BOXES: usize = 2 * BOX;
-
-// Before which of the words a box can start.
-const PLACES: usize = MOST_WORDS - BOX + 1;
-
-// The most intervals that boxes are made of.
-pub const MOST_INTERVALS: usize = 6;
-
-// Whether words are a box, and a double or a box behind it where there are more.
-pub fn are_boxes(words: Words) -> bool {
-    let missing = words.is_missing;
-    if !words.are_ends || !is_box(missing, 0) {
-        return false;
-    }
-    if words.count < TWO_BOXES {
-        return !missing[BOX];
-    }
-    is_box(missing, BOX)
+// The box that the next eight words spell.
+pub fn read_box(words: &mut Words) -> Option<BoundingBox> {
+    box_of(words.read_array()?)
 }
 
-// Whether eight words from a place on can be a box: of a missing z or m both ends are. (The
-// remainder changes nothing, here and below.)
-pub fn is_box(missing: [bool; MOST_WORDS], place: usize) -> bool {
-    let at = place % PLACES;
-    !(missing[at] || missing[at + 1] || missing[at + 2] || missing[at + 3])
-        && missing[at + 4] == missing[at + 5]
-        && missing[at + 6] == missing[at + 7]
+// The box of eight ends, of which those of z, and those of m, can both be missing.
+pub fn box_of(ends: [Option<f64>; 8]) -> Option<BoundingBox> {
+    let [x_lo, x_hi, y_lo, y_hi, z_lo, z_hi, m_lo, m_hi] = ends;
+    let x = [x_lo?, x_hi?];
+    let y = [y_lo?, y_hi?];
+    let z = both_or_none(z_lo, z_hi)?;
+    let m = both_or_none(m_lo, m_hi)?;
+    Some(filled_box(x, y, z, m))
 }
 
-// The box that eight words from a place on spell.
-pub fn box_at(words: Words, place: usize) -> BoundingBox {
-    let at = place % PLACES;
-    let ends = words.doubles;
+// The ends of a z or an m, where it has both; missing ends, where it has none.
+fn both_or_none(lo: Option<f64>, hi: Option<f64>) -> Option<Option<Ends>> {
+    match (lo, hi) {
+        (Some(lo), Some(hi)) => Some(Some([lo, hi])),
+        (None, None) => Some(None),
+        _ => None,
+    }
+}
+
+// The box with these ends.
+pub fn filled_box(x: Ends, y: Ends, z: Option<Ends>, m: Option<Ends>) -> BoundingBox {
     BoundingBox {
-        x: filled_x(ends[at], ends[at + 1]),
-        y: filled(ends[at + 2], ends[at + 3]),
-        z: dimension_at(words, at + 4),
-        m: dimension_at(words, at + 6),
+        x: filled_x(x),
+        y: filled(y),
+        z: z.map(filled),
+        m: m.map(filled),
     }
 }
 
 // The interval with these ends.
-pub fn filled(lo: f64, hi: f64) -> Interval {
+pub fn filled(ends: Ends) -> Interval {
+    let [lo, hi] = ends;
     Interval { lo, hi }
 }
 
 // The x with these ends.
-pub fn filled_x(lo: f64, hi: f64) -> WraparoundInterval {
+pub fn filled_x(ends: Ends) -> WraparoundInterval {
     WraparoundInterval {
-        inner: filled(lo, hi),
+        inner: filled(ends),
     }
 }
 
-// The z or m that two words from a place on spell.
-fn dimension_at(words: Words, at: usize) -> Dimension
-    requires { at ≤ 46 }
+// Takes each box whose x and y are among the intervals, and whose z and m are missing or among them: x
+// goes slowest, and what is missing comes first.
+pub fn each_box<F: FnMut(BoundingBox)>(intervals: &[Ends], mut take: F)
+    requires { F.IsAlwaysCallable take }
 {
-    if words.is_missing[at] {
-        return Dimension::Missing;
+    for x in intervals {
+        for y in intervals {
+            for z in once(None).chain(intervals.iter().copied().map(Some)) {
+                for m in once(None).chain(intervals.iter().copied().map(Some)) {
+                    take(filled_box(*x, *y, z, m));
+                }
+            }
+        }
     }
-    Dimension::Known(filled(words.doubles[at], words.doubles[at + 1]))
-}
-
-// A box, and what is left of a number whose last four digits name it.
-#[derive(Clone, Copy)]
-pub struct Numbered {
-    pub bounds: BoundingBox,
-    pub rest: usize,
-}
-
-// The box that the last digits of a number name: the intervals of x and of y, and those of z and of
-// m, where 0 is missing.
-pub fn box_numbered(number: usize, ends: Doubles) -> Numbered {
-    let count = ends.count / 2;
-    let m = last_digit(number, count + 1);
-    let z = last_digit(m.rest, count + 1);
-    let y = last_digit(z.rest, count);
-    let x = last_digit(y.rest, count);
-    Numbered {
-        bounds: BoundingBox {
-            x: WraparoundInterval {
-                inner: interval_numbered(x.place, ends),
-            },
-            y: interval_numbered(y.place, ends),
-            z: dimension_numbered(z.place, ends),
-            m: dimension_numbered(m.place, ends),
-        },
-        rest: x.rest,
-    }
-}
-
-// The interval at a place. (The remainder by the length of the list changes nothing.)
-fn interval_numbered(place: usize, ends: Doubles) -> Interval {
-    let at = place % MOST_INTERVALS * 2;
-    filled(ends.list[at], ends.list[at + 1])
-}
-
-// A z or an m: missing, or the interval at the place before.
-fn dimension_numbered(place: usize, ends: Doubles) -> Dimension {
-    if place == 0 {
-        return Dimension::Missing;
-    }
-    Dimension::Known(interval_numbered(place - 1, ends))
 }

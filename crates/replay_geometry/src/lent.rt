@@ -5,11 +5,9 @@ ghost use Rattle.sedona_geometry.specs.BoundingBox.{update_box};
 use sedona_geometry::bounding_box::BoundingBox;
 
 // What a box holds after `update_box`, to which it is lent.
-pub fn updated(a: BoundingBox, b: BoundingBox) -> BoundingBox
+pub fn updated(mut a: BoundingBox, b: BoundingBox) -> BoundingBox
     ensures { result ≡ update_box a b }
 {
-    let mut lent = a;
-    let done = lent.update_box(b);
-    let left = lent;
-    left
+    a.update_box(b);
+    a
 }

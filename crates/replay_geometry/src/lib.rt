@@ -4,7 +4,6 @@
 pub mod answer;
 pub mod boxes;
 pub mod calls;
-mod digits;
 mod lent;
 pub mod names;
 pub mod sweep;

@@ -1,19 +1,14 @@
 // Digests, for answers that are too many to be written out.
-use crate::output::{Buffer, put, put_decimal, put_hex};
 use crate::write::bits;
+use std::fmt;
 
-// A digest of answers. Each answer is a few words to it.
-#[derive(Clone, Copy)]
+// A digest of answers, at first of none. Each answer is a few words to it.
+#[derive(Clone, Copy, Default)]
 pub struct Digest {
-    pub value: u32,
+    value: u32,
 }
 
 impl Digest {
-    // Of no answers.
-    pub fn new() -> Digest {
-        Digest { value: 0 }
-    }
-
     // With a word more: its high half, then its low half.
     pub fn with_word(self, word: u64) -> Digest {
         let high = (word / 0x1_0000_0000) as u32;
@@ -33,17 +28,9 @@ impl Digest {
     }
 }
 
-// How many calls were made, and the digest of their answers.
-#[derive(Clone, Copy)]
-pub struct Swept {
-    pub count: usize,
-    pub digest: Digest,
-}
-
-// Puts a count and a digest.
-pub fn put_swept(out: &mut Buffer, filled: usize, swept: Swept) -> usize {
-    let digest = swept.digest;
-    let at = put_decimal(out, filled, swept.count as u64);
-    let at = put(out, at, b' ');
-    put_hex(out, at, digest.value as u64, 8)
+impl fmt::Display for Digest {
+    fn fmt<W: fmt::Write>(&self, f: &mut fmt::Formatter<W>) -> fmt::Result {
+        let value = self.value;
+        write!(f, "{value:08x}")
+    }
 }

@@ -1,4 +1,5 @@
 -- The hypotheses of the theorems can be met; and what the definitions answer, computed. Assumes nothing.
+use Rattle.std.specs.Prelude.{Option, Some, None, ℤ}
 use mathlib.Core.Path.{◌≡◌, refl}
 use mathlib.Core.List.{List, [], ◌∷◌, map}
 use Prim.Native.Nat.{ℕ, ◌+◌, ◌-◌, ◌*◌, ◌^◌, ◌≤◌}
@@ -7,11 +8,10 @@ use lib.IntN.{pos, negsuc}
 use lib.ListN.{replicate}
 use Rattle.sedona_expr.specs.Statistics.{sum_is_outside, is_outside, totals_overflow, counts_overflow, merge_value, step, fold_from, fold, unspecified, sum}
 use Rattle.sedona_expr.specs.Refusals.{or_else}
-use Rattle.sedona_expr.specs.declared.statistics.Total.{Total}
 use Rattle.sedona_expr.specs.declared.statistics.GeoStatistics.{GeoStatistics}
 use Rattle.scan_tariff.specs.Tariff.{gib, exact, nearest_cent, is_billed, total_refusal, sizes_refusal, rates_refusal, refused, fee, fee_of_total, fee_of_record, fee_of_sizes, difference}
 use Rattle.scan_tariff.specs.declared.tariff.Rates.{Rates}
-use Rattle.scan_tariff.specs.declared.tariff.Fee.{Fee}
+use Rattle.scan_tariff.specs.Tariff.{Fee}
 use Rattle.scan_tariff.proofs.Cents.{nearest_only}
 use Rattle.scan_tariff.proofs.Theorems.{fee_of_list, fee_of_fold, record_fees_grow, list_fees_grow, record_half_a_cent, list_half_a_cent}
 
@@ -21,21 +21,21 @@ at a b c = record { first = a; second = b; third = c }
 abbrev costs : ℕ → Fee
 costs n = record { number = 0; cents = n }
 
-abbrev known : ℕ → Total
-known n = Total.Known (pos n)
+abbrev known : ℕ → Option ℤ
+known n = Some (pos n)
 
 -- a record that knows its bytes alone
-abbrev file : Total → GeoStatistics
+abbrev file : Option ℤ → GeoStatistics
 file t = record {
   bbox = unspecified.bbox;
   geometry_types = unspecified.geometry_types;
-  total_geometries = Total.Missing;
+  total_geometries = None;
   total_size_bytes = t;
-  total_points = Total.Missing;
-  puntal_count = Total.Missing;
-  lineal_count = Total.Missing;
-  polygonal_count = Total.Missing;
-  collection_count = Total.Missing;
+  total_points = None;
+  puntal_count = None;
+  lineal_count = None;
+  polygonal_count = None;
+  collection_count = None;
   total_envelope_width = unspecified.total_envelope_width;
   total_envelope_height = unspecified.total_envelope_height;
 }
@@ -78,25 +78,25 @@ unfolding exact nearest_cent is_billed sizes_refusal rates_refusal or_else fee f
 limits = (refl, refl, refl, refl, refl, refl)
 
 -- 18: missing, negative, mended by another; a sum over 2^40 of sizes that are not
-pub bad_sizes : (fee_of_sizes (Total.Missing ∷ []) (at 1 2 3) ≡ refused 18)
-    × (fee_of_sizes (Total.Known (negsuc 0) ∷ []) (at 1 2 3) ≡ refused 18)
-    × (fee_of_sizes (Total.Known (negsuc 0) ∷ known 1 ∷ []) (at 1 2 3) ≡ refused 18)
-    × (fee_of_sizes (known 5 ∷ Total.Missing ∷ []) (at 1 2 3) ≡ refused 18)
+pub bad_sizes : (fee_of_sizes (None ∷ []) (at 1 2 3) ≡ refused 18)
+    × (fee_of_sizes (Some (negsuc 0) ∷ []) (at 1 2 3) ≡ refused 18)
+    × (fee_of_sizes (Some (negsuc 0) ∷ known 1 ∷ []) (at 1 2 3) ≡ refused 18)
+    × (fee_of_sizes (known 5 ∷ None ∷ []) (at 1 2 3) ≡ refused 18)
     × (fee_of_sizes (known (2 ^ 40) ∷ known 1 ∷ []) (at 1 2 3) ≡ refused 18)
     × (fee_of_sizes (known (2 ^ 39) ∷ known (2 ^ 39) ∷ []) (at 1 2 3) ≡ costs 2496)
 unfolding exact nearest_cent is_billed sizes_refusal rates_refusal or_else fee fee_of_sizes
 bad_sizes = (refl, refl, refl, refl, refl, refl)
 
 -- each size, then the sum: a bad size before and behind sizes whose sum, with it too, is over 2^40; both faults are 18
-pub sizes_then_sum : (fee_of_sizes (Total.Known (negsuc 0) ∷ known (2 ^ 40) ∷ known 2 ∷ []) (at 1 2 3) ≡ refused 18)
-    × (fee_of_sizes (known (2 ^ 40) ∷ known 2 ∷ Total.Known (negsuc 0) ∷ []) (at 1 2 3) ≡ refused 18)
-    × (fee_of_sizes (known (2 ^ 40) ∷ known 2 ∷ Total.Missing ∷ []) (at 1 2 3) ≡ refused 18)
+pub sizes_then_sum : (fee_of_sizes (Some (negsuc 0) ∷ known (2 ^ 40) ∷ known 2 ∷ []) (at 1 2 3) ≡ refused 18)
+    × (fee_of_sizes (known (2 ^ 40) ∷ known 2 ∷ Some (negsuc 0) ∷ []) (at 1 2 3) ≡ refused 18)
+    × (fee_of_sizes (known (2 ^ 40) ∷ known 2 ∷ None ∷ []) (at 1 2 3) ≡ refused 18)
 unfolding exact nearest_cent is_billed sizes_refusal rates_refusal or_else fee fee_of_sizes
 sizes_then_sum = (refl, refl, refl)
 
 -- 18 before 19: each fault of a size, of the sum and of the list beside a rate that is too high
-pub sizes_then_rates : (fee_of_sizes (Total.Missing ∷ []) (at 10001 2 3) ≡ refused 18)
-    × (fee_of_sizes (Total.Known (negsuc 0) ∷ []) (at 1 10001 3) ≡ refused 18)
+pub sizes_then_rates : (fee_of_sizes (None ∷ []) (at 10001 2 3) ≡ refused 18)
+    × (fee_of_sizes (Some (negsuc 0) ∷ []) (at 1 10001 3) ≡ refused 18)
     × (fee_of_sizes (known (2 ^ 40 + 1) ∷ []) (at 1 2 10001) ≡ refused 18)
     × (fee_of_sizes (known (2 ^ 40) ∷ known 1 ∷ []) (at 1 2 10001) ≡ refused 18)
     × (fee_of_sizes (replicate 1001 (known 0)) (at 10001 2 3) ≡ refused 18)
@@ -117,9 +117,9 @@ most_sizes = (refl, refl)
 
 -- of records: 18, 19, and 18 before 19
 pub of_records : (fee_of_record (file (known (2 ^ 29))) (at 1 0 0) ≡ costs 1)
-    × (fee_of_record (file Total.Missing) (at 1 0 0) ≡ refused 18)
+    × (fee_of_record (file None) (at 1 0 0) ≡ refused 18)
     × (fee_of_record (file (known 5)) (at 10001 0 0) ≡ refused 19)
-    × (fee_of_record (file Total.Missing) (at 10001 0 0) ≡ refused 18)
+    × (fee_of_record (file None) (at 10001 0 0) ≡ refused 18)
     × (fee_of_record (file (known (2 ^ 40 + 1))) (at 10001 0 0) ≡ refused 18)
 unfolding exact nearest_cent is_billed total_refusal rates_refusal or_else fee fee_of_total
 of_records = (refl, refl, refl, refl, refl)
@@ -127,10 +127,10 @@ of_records = (refl, refl, refl, refl, refl)
 -- ---- hypotheses that are met
 
 -- two sizes in two bands, and more than them
-abbrev two : List Total
+abbrev two : List (Option ℤ)
 two = known (2 ^ 29) ∷ known (64 * gib) ∷ []
 
-abbrev more : List Total
+abbrev more : List (Option ℤ)
 more = known (2 ^ 29 + 1) ∷ two
 
 pub two_are_their_sum : fee_of_sizes two (at 3 50 700) ≡ fee_of_total (sum two) (at 3 50 700)

@@ -1,4 +1,5 @@
 -- What a biller relies on. Assumes nothing.
+use Rattle.std.specs.Prelude.{Option, Some, None, ℤ}
 use mathlib.Core.Logic.{◌⊎◌, inl, inr}
 use mathlib.Core.Path.{◌≡◌, refl, sym, ap, subst, ◌∙◌}
 use mathlib.Core.Bool.{Bool, true, false, not, ◌||◌, ◌&&◌, cond}
@@ -12,13 +13,12 @@ use lib.ListN.{length, length-map}
 use Rattle.sedona_geometry.specs.Lists.{are_all}
 use Rattle.sedona_geometry.proofs.Order.{ℕ_le_or_lt}
 use Rattle.sedona_expr.specs.Statistics.{fold, sum, total, size_bytes}
-use Rattle.sedona_expr.specs.declared.statistics.Total.{Total}
 use Rattle.sedona_expr.specs.declared.statistics.GeoStatistics.{GeoStatistics}
 use Rattle.sedona_expr.proofs.Theorems.{totals_are_sums}
 use Rattle.scan_tariff.specs.Error as error
 use Rattle.scan_tariff.specs.Tariff.{gib, first_band, second_band, third_band, exact, nearest_cent, cents, is_billed, total_refusal, sizes_refusal, refusal, bytes, refused, fee, fee_of_total, fee_of_record, fee_of_sizes, difference, Nearest}
 use Rattle.scan_tariff.specs.declared.tariff.Rates.{Rates}
-use Rattle.scan_tariff.specs.declared.tariff.Fee.{Fee}
+use Rattle.scan_tariff.specs.Tariff.{Fee}
 use Rattle.scan_tariff.proofs.Cents.{nearest, nearest_only, whole_band, cents_grow}
 
 -- ---- bands
@@ -64,16 +64,16 @@ module _ (n : ℕ) (r : Rates) where
 -- The fee of a list is the fee of its sum, be it a fee, 18 for a sum over 2^40, or 19.
 --     l    the list is "of at most 1,000 sizes"
 --     e    no size is "missing, negative or over 2^40"
-pub fee_of_list : (ts : List Total) (r : Rates) → length ts ≤ 1000 → are_all is_billed ts ≡ true → fee_of_sizes ts r ≡ fee_of_total (sum ts) r
+pub fee_of_list : (ts : List (Option ℤ)) (r : Rates) → length ts ≤ 1000 → are_all is_billed ts ≡ true → fee_of_sizes ts r ≡ fee_of_total (sum ts) r
 unfolding fee_of_sizes fee_of_total sizes_refusal total_refusal
 fee_of_list ts r l e = rw (le-ltb 1000 (length ts) l, e)
 
-of_one : (t : Total) (r : Rates) → fee_of_total t r ≡ fee_of_sizes (t ∷ []) r
+of_one : (t : Option ℤ) (r : Rates) → fee_of_total t r ≡ fee_of_sizes (t ∷ []) r
 unfolding fee_of_sizes fee_of_total sizes_refusal total_refusal is_billed
-of_one Total.Missing r = refl
-of_one (Total.Known z) r = rw (+ℤ_idr z) (go (is_billed (Total.Known z)))
+of_one None r = refl
+of_one (Some z) r = rw (+ℤ_idr z) (go (is_billed (Some z)))
   where
-    go : (b : Bool) → fee (cond (not b) error.bad_size 0) (Total.Known z) r ≡ fee (cond (not (b && true) || not b) error.bad_size 0) (Total.Known z) r
+    go : (b : Bool) → fee (cond (not b) error.bad_size 0) (Some z) r ≡ fee (cond (not (b && true) || not b) error.bad_size 0) (Some z) r
     go true = refl
     go false = refl
 
@@ -87,12 +87,12 @@ fee_of_one s r = of_one s.total_size_bytes r
 --             other, may have a fee
 pub fee_of_fold : (s : GeoStatistics) (ss : List GeoStatistics) (r : Rates) → (fold (s ∷ ss)).number ≡ 0 → length (s ∷ ss) ≤ 1000 → are_all is_billed (map (total size_bytes) (s ∷ ss)) ≡ true
     → fee_of_record (fold (s ∷ ss)).rec r ≡ fee_of_sizes (map (total size_bytes) (s ∷ ss)) r
-fee_of_fold s ss r e l b = ap (λ (t : Total). fee_of_total t r) (totals_are_sums size_bytes s ss e) ∙ sym (fee_of_list (map (total size_bytes) (s ∷ ss)) r (subst (λ (n : ℕ). n ≤ 1000) (sym (length-map (s ∷ ss) (total size_bytes))) l) b)
+fee_of_fold s ss r e l b = ap (λ (t : Option ℤ). fee_of_total t r) (totals_are_sums size_bytes s ss e) ∙ sym (fee_of_list (map (total size_bytes) (s ∷ ss)) r (subst (λ (n : ℕ). n ≤ 1000) (sym (length-map (s ∷ ss) (total size_bytes))) l) b)
 
 -- ---- more bytes
 
 -- an answer is refused, with no cents, or is the fee
-given_or_none : (n : ℕ) (t : Total) (r : Rates) → (fee n t r ≡ record { number = 0; cents = cents (bytes t) r }) ⊎ ((fee n t r).cents ≡ 0)
+given_or_none : (n : ℕ) (t : Option ℤ) (r : Rates) → (fee n t r ≡ record { number = 0; cents = cents (bytes t) r }) ⊎ ((fee n t r).cents ≡ 0)
 unfolding fee
 given_or_none n t r = go (eqb (refusal n r) 0)
   where
@@ -101,7 +101,7 @@ given_or_none n t r = go (eqb (refusal n r) 0)
     go true = inl refl
     go false = inr refl
 
-given : (n : ℕ) (t : Total) (r : Rates) → (fee n t r).number ≡ 0 → (fee n t r).cents ≡ cents (bytes t) r
+given : (n : ℕ) (t : Option ℤ) (r : Rates) → (fee n t r).number ≡ 0 → (fee n t r).cents ≡ cents (bytes t) r
 unfolding fee
 given n t r e = go (eqb (refusal n r) 0) refl e
   where
@@ -109,7 +109,7 @@ given n t r e = go (eqb (refusal n r) 0) refl e
     go true p q = refl
     go false p q = absurd (eqb-false (refusal n r) 0 p q)
 
-grow : (m n : ℕ) (t u : Total) (r : Rates) → bytes t ≤ bytes u → (fee n u r).number ≡ 0 → (fee m t r).cents ≤ (fee n u r).cents
+grow : (m n : ℕ) (t u : Option ℤ) (r : Rates) → bytes t ≤ bytes u → (fee n u r).number ≡ 0 → (fee m t r).cents ≤ (fee n u r).cents
 grow m n t u r l e = rw (given n u r e) (go (given_or_none m t r))
   where
     go : (fee m t r ≡ record { number = 0; cents = cents (bytes t) r }) ⊎ ((fee m t r).cents ≡ 0) → (fee m t r).cents ≤ cents (bytes u) r
@@ -122,7 +122,7 @@ pub record_fees_grow : (a b : GeoStatistics) (r : Rates) → bytes a.total_size_
 unfolding fee_of_total
 record_fees_grow a b r = grow (total_refusal a.total_size_bytes) (total_refusal b.total_size_bytes) a.total_size_bytes b.total_size_bytes r
 
-pub list_fees_grow : (ts us : List Total) (r : Rates) → bytes (sum ts) ≤ bytes (sum us) → (fee_of_sizes us r).number ≡ 0 → (fee_of_sizes ts r).cents ≤ (fee_of_sizes us r).cents
+pub list_fees_grow : (ts us : List (Option ℤ)) (r : Rates) → bytes (sum ts) ≤ bytes (sum us) → (fee_of_sizes us r).number ≡ 0 → (fee_of_sizes ts r).cents ≤ (fee_of_sizes us r).cents
 unfolding fee_of_sizes
 list_fees_grow ts us r = grow (sizes_refusal ts) (sizes_refusal us) (sum ts) (sum us) r
 
@@ -130,13 +130,13 @@ list_fees_grow ts us r = grow (sizes_refusal ts) (sizes_refusal us) (sum ts) (su
 
 -- The rounded fee, where one is given, is at most half a cent from the exact one, which is a number of cents times 2^30: twice their
 -- difference, times 2^30, is at most 2^30.
-within : (n : ℕ) (t : Total) (r : Rates) → (fee n t r).number ≡ 0 → 2 * difference ((fee n t r).cents * gib) (exact (bytes t) r) ≤ gib
+within : (n : ℕ) (t : Option ℤ) (r : Rates) → (fee n t r).number ≡ 0 → 2 * difference ((fee n t r).cents * gib) (exact (bytes t) r) ≤ gib
 within n t r e = let m = nearest (exact (bytes t) r) in rw (given n t r e) (omega arith)
 
 pub record_half_a_cent : (s : GeoStatistics) (r : Rates) → (fee_of_record s r).number ≡ 0 → 2 * difference ((fee_of_record s r).cents * gib) (exact (bytes s.total_size_bytes) r) ≤ gib
 unfolding fee_of_total
 record_half_a_cent s r = within (total_refusal s.total_size_bytes) s.total_size_bytes r
 
-pub list_half_a_cent : (ts : List Total) (r : Rates) → (fee_of_sizes ts r).number ≡ 0 → 2 * difference ((fee_of_sizes ts r).cents * gib) (exact (bytes (sum ts)) r) ≤ gib
+pub list_half_a_cent : (ts : List (Option ℤ)) (r : Rates) → (fee_of_sizes ts r).number ≡ 0 → 2 * difference ((fee_of_sizes ts r).cents * gib) (exact (bytes (sum ts)) r) ≤ gib
 unfolding fee_of_sizes
 list_half_a_cent ts r = within (sizes_refusal ts) (sum ts) r

@@ -1,13 +1,12 @@
 -- The scan tariff, after request 7 of 02, over whole numbers.
-use Rattle.std.specs.Prelude.{Bool, false, not, ◌||◌, cond, List, ℕ, suc, ◌+◌, ◌-◌, ◌*◌, ◌/◌, ◌%◌, ◌^◌, ◌≤◌, ◌<◌, min, eqb, ltb, leb, pos, negsuc, nat_abs, length}
+use Rattle.std.specs.Prelude.{Bool, false, not, ◌||◌, cond, List, ℕ, suc, ◌+◌, ◌-◌, ◌*◌, ◌/◌, ◌%◌, ◌^◌, ◌≤◌, ◌<◌, min, eqb, ltb, leb, pos, negsuc, nat_abs, length, Option, Some, None, ℤ, Result, Ok, Err}
 use Rattle.sedona_geometry.specs.Lists.{are_all}
 use Rattle.sedona_expr.specs.Statistics.{sum}
 use Rattle.sedona_expr.specs.Refusals.{or_else, refuse_if}
-use Rattle.sedona_expr.specs.declared.statistics.Total.{Total}
 use Rattle.sedona_expr.specs.declared.statistics.GeoStatistics.{GeoStatistics}
 use Rattle.scan_tariff.specs.Error as error
 use Rattle.scan_tariff.specs.declared.tariff.Rates.{Rates}
-use Rattle.scan_tariff.specs.declared.tariff.Fee.{Fee}
+use Rattle.scan_tariff.specs.declared.error.Refusal.{Refusal}
 
 -- ---- bytes and cents
 
@@ -43,17 +42,17 @@ abbrev pub most_bytes : ℕ
 most_bytes = 2 ^ 40
 
 -- Not "missing, negative or over 2^40".
-unfoldable pub is_billed : Total → Bool
-is_billed Total.Missing = false
-is_billed (Total.Known (negsuc n)) = false
-is_billed (Total.Known (pos n)) = leb n most_bytes
+unfoldable pub is_billed : Option ℤ → Bool
+is_billed None = false
+is_billed (Some (negsuc n)) = false
+is_billed (Some (pos n)) = leb n most_bytes
 
 -- 18, of one size.
-unfoldable pub total_refusal : Total → ℕ
+unfoldable pub total_refusal : Option ℤ → ℕ
 total_refusal t = refuse_if (not (is_billed t)) error.bad_size
 
 -- 18, of a list: "each size in turn and then the sum", "as is a longer list".
-unfoldable pub sizes_refusal : List Total → ℕ
+unfoldable pub sizes_refusal : List (Option ℤ) → ℕ
 sizes_refusal ts = refuse_if (ltb 1000 (length ts) || not (are_all is_billed ts) || not (is_billed (sum ts))) error.bad_size
 
 -- 19: "a rate over 10,000".
@@ -67,19 +66,29 @@ refusal n r = or_else n (rates_refusal r)
 -- ---- the calls
 
 -- The bytes of a total. (They are asked only of one that is billed.)
-abbrev pub bytes : Total → ℕ
-bytes Total.Missing = 0
-bytes (Total.Known z) = nat_abs z
+abbrev pub bytes : Option ℤ → ℕ
+bytes None = 0
+bytes (Some z) = nat_abs z
+
+-- A fee in cents with its number: 0, or the number that refuses it, with a fee of 0 beside it.
+pub record Fee : Type 0 where
+  pub number : ℕ
+  pub cents : ℕ
 
 -- A number alone: "a count, fee or type set 0".
 abbrev pub refused : ℕ → Fee
 refused n = record { number = n; cents = 0 }
 
+-- What a call answers, as a fee with its number.
+abbrev pub told : Result ℕ Refusal → Fee
+told (Ok n) = record { number = 0; cents = n }
+told (Err e) = refused (error.number e)
+
 -- The fee of a total at rates, where neither a number for the sizes nor one for the rates refuses it.
-unfoldable pub fee : ℕ → Total → Rates → Fee
+unfoldable pub fee : ℕ → Option ℤ → Rates → Fee
 fee n t r = cond (eqb (refusal n r) 0) (record { number = 0; cents = cents (bytes t) r }) (refused (refusal n r))
 
-unfoldable pub fee_of_total : Total → Rates → Fee
+unfoldable pub fee_of_total : Option ℤ → Rates → Fee
 fee_of_total t r = fee (total_refusal t) t r
 
 -- "the fee for one folded record from its `total_size_bytes`".
@@ -87,7 +96,7 @@ abbrev pub fee_of_record : GeoStatistics → Rates → Fee
 fee_of_record s r = fee_of_total s.total_size_bytes r
 
 -- "for a lent list of at most 1,000 sizes as the fee of their sum".
-unfoldable pub fee_of_sizes : List Total → Rates → Fee
+unfoldable pub fee_of_sizes : List (Option ℤ) → Rates → Fee
 fee_of_sizes ts r = fee (sizes_refusal ts) (sum ts) r
 
 -- ---- what the theorems speak of

@@ -1,4 +1,5 @@
 -- Request 6: no box that a call of records or filters gives has −0, call by call; a refused merge keeps its record. Assumes nothing.
+use Rattle.std.specs.Prelude.{Option, Some, None}
 use mathlib.Core.Path.{◌≡◌, refl, ap}
 use mathlib.Core.Bool.{Bool, true, false, ◌&&◌, ◌||◌, cond}
 use mathlib.Core.List.{List, [], ◌∷◌}
@@ -16,22 +17,21 @@ use Rattle.sedona_expr.specs.Refusals.{box_refusal}
 use Rattle.sedona_expr.specs.SpatialFilter.{box_for}
 use Rattle.sedona_expr.specs.Statistics.{plus_zero_where_known, merge_bboxes, unspecified, empty, plus_zero, refused, totals_overflow, counts_overflow, merge_parts, merge_value, merge_or_keep, merge, start, first, of_merged, stays, step, fold_from, fold, CanonicalWhereKnown}
 use Rattle.sedona_expr.specs.Tables.{Boxes, has_box, knows_z, knows_m, interval_at, box_with, box_at, Table, root}
-use Rattle.sedona_expr.specs.declared.statistics.Bbox.{Bbox}
 use Rattle.sedona_expr.specs.declared.statistics.GeoStatistics.{GeoStatistics}
-use Rattle.sedona_expr.specs.declared.statistics.Folded.{Folded}
+use Rattle.sedona_expr.specs.Statistics.{Folded}
 
 -- A record whose box is canonical.
 abbrev pub CanonicalRecord : GeoStatistics → Type 0
 CanonicalRecord a = CanonicalWhereKnown a.bbox
 
 -- ---- handed on
-plus_canonical : (b : Bbox) → CanonicalWhereKnown (plus_zero_where_known b)
-plus_canonical Bbox.Missing = tt
-plus_canonical (Bbox.Known a) = canonical.accepted_canonical a
+plus_canonical : (b : Option BoundingBox) → CanonicalWhereKnown (plus_zero_where_known b)
+plus_canonical None = tt
+plus_canonical (Some a) = canonical.accepted_canonical a
 
-stays_where_known : (b : Bbox) → CanonicalWhereKnown b → plus_zero_where_known b ≡ b
-stays_where_known Bbox.Missing c = refl
-stays_where_known (Bbox.Known a) c = ap (λ (d : BoundingBox). Bbox.Known d) (canonical.stays_box c)
+stays_where_known : (b : Option BoundingBox) → CanonicalWhereKnown b → plus_zero_where_known b ≡ b
+stays_where_known None c = refl
+stays_where_known (Some a) c = ap (λ (d : BoundingBox). Some d) (canonical.stays_box c)
 
 pub stays_record : {a : GeoStatistics} → CanonicalRecord a → plus_zero a ≡ a
 stays_record {a} c = rw (stays_where_known a.bbox c)
@@ -43,11 +43,11 @@ unspecified_canonical = tt
 pub empty_canonical : CanonicalRecord empty
 empty_canonical = canonical.empty_box_canonical
 
-merge_bboxes_canonical : (a b : Bbox) → CanonicalWhereKnown (merge_bboxes a b)
+merge_bboxes_canonical : (a b : Option BoundingBox) → CanonicalWhereKnown (merge_bboxes a b)
 unfolding merge_bboxes
-merge_bboxes_canonical Bbox.Missing b = plus_canonical b
-merge_bboxes_canonical (Bbox.Known a) Bbox.Missing = canonical.accepted_canonical a
-merge_bboxes_canonical (Bbox.Known a) (Bbox.Known b) = canonical.merge_box_canonical a b
+merge_bboxes_canonical None b = plus_canonical b
+merge_bboxes_canonical (Some a) None = canonical.accepted_canonical a
+merge_bboxes_canonical (Some a) (Some b) = canonical.merge_box_canonical a b
 
 pub merge_value_canonical : (a b : GeoStatistics) → CanonicalRecord (merge_value a b).rec
 unfolding merge_value merge_parts
@@ -103,7 +103,7 @@ box_at_canonical b i = go (ltb i (length b.doubles / 8) && has_box flag)
     flag : ℕ
     flag = get_or b.flags i 0
 
-    go : (has : Bool) → CanonicalWhereKnown (cond has (Bbox.Known (box_with b.doubles i flag)) Bbox.Missing)
+    go : (has : Bool) → CanonicalWhereKnown (cond has (Some (box_with b.doubles i flag)) None)
     go true =
         canonical.xyzm_canonical (wraparound.from_interval (interval_at b.doubles i 0)) (interval_at b.doubles i 1)
         (bounding_box.known_where (knows_z flag) (interval_at b.doubles i 2)) (bounding_box.known_where (knows_m flag) (interval_at b.doubles i 3))

@@ -1,4 +1,5 @@
 -- Demand 3: its two halves, of the laws of folds and of filter boxes, and the whole. Assumes nothing.
+use Rattle.std.specs.Prelude.{Option, Some, None}
 use mathlib.Core.Path.{◌≡◌, refl, sym, ◌∙◌}
 use mathlib.Core.Bool.{true}
 use mathlib.Core.List.{List}
@@ -14,7 +15,6 @@ use Rattle.sedona_expr.specs.Refusals.{box_refusal}
 use Rattle.sedona_expr.specs.SpatialFilter.{box_for}
 use Rattle.sedona_expr.specs.Calls.{outcome, filter_bbox}
 use Rattle.sedona_expr.specs.Demand.{Row, WhereBox, Holds, EachLeaf, OfLiteral, Wanted, is_point, low_to_high, Pointed, MayMatch, Reaches, Demand3}
-use Rattle.sedona_expr.specs.declared.statistics.Bbox.{Bbox}
 use Rattle.sedona_expr.specs.declared.statistics.GeoStatistics.{GeoStatistics}
 use Rattle.sedona_expr.proofs.Points.{point, ordered}
 use Rattle.sedona_expr.proofs.Leaves.{leaves_zip, literal_zip, literal_map, leaves_of_table, literal_doubles}
@@ -37,12 +37,12 @@ module _ (l : Lookup) (t : Table) (r : Records) (row : Row) (names : List ℕ) (
       (root t) (leaves_of_table t Doubles (literal_doubles t.literals P.literals) (count t.nodes - 1)) P.low_to_high
 
   -- a leaf of a column's name is that column's
-  of_name : EachLeaf (λ f c. place l c < length r.boxes.flags) (root t) → (i : ℕ) (b : BoundingBox) → i < length names → (row i).bbox ≡ Bbox.Known b
-      → EachLeaf (λ f c. OfLiteral (λ k. c.name ≡ get_or names i 0 → (row (place l c)).bbox ≡ Bbox.Known b) f) (root t)
+  of_name : EachLeaf (λ f c. place l c < length r.boxes.flags) (root t) → (i : ℕ) (b : BoundingBox) → i < length names → (row i).bbox ≡ Some b
+      → EachLeaf (λ f c. OfLiteral (λ k. c.name ≡ get_or names i 0 → (row (place l c)).bbox ≡ Some b) f) (root t)
   of_name E i b h e =
       leaves_zip (λ f c. place l c < length r.boxes.flags) (λ f c. OfLiteral (λ k. c.name ≡ get_or names (place l c) 0) f)
-      (λ f c. OfLiteral (λ k. c.name ≡ get_or names i 0 → (row (place l c)).bbox ≡ Bbox.Known b) f)
-      (λ f c x. literal_map (λ k. c.name ≡ get_or names (place l c) 0) (λ k. c.name ≡ get_or names i 0 → (row (place l c)).bbox ≡ Bbox.Known b)
+      (λ f c. OfLiteral (λ k. c.name ≡ get_or names i 0 → (row (place l c)).bbox ≡ Some b) f)
+      (λ f c x. literal_map (λ k. c.name ≡ get_or names (place l c) 0) (λ k. c.name ≡ get_or names i 0 → (row (place l c)).bbox ≡ Some b)
       (λ k o n. rw (P.differ (place l c) i (omega (arith, P.columns)) h (sym o ∙ n)) e) f)
       (root t) E P.own_names
 
@@ -54,10 +54,10 @@ module _ (l : Lookup) (t : Table) (r : Records) (row : Row) (names : List ℕ) (
       n : ℕ
       n = get_or names i 0
 
-      go : (o : Bbox) → (row i).bbox ≡ o → WhereBox Doubles o → WhereBox (Each is_point) o
+      go : (o : Option BoundingBox) → (row i).bbox ≡ o → WhereBox Doubles o → WhereBox (Each is_point) o
           → WhereBox (λ b. ((filter_bbox t n).number ≡ 0) × (bounding_box.contains (filter_bbox t n).bounds b ≡ true)) o
-      go Bbox.Missing e D p = tt
-      go (Bbox.Known b) e D p =
+      go None e D p = tt
+      go (Some b) e D p =
           rw w (refl, plus_contains (box_for n (root t)) b (contains_of_parts (reaches n (λ c. row (place l c)) b D (each_map point p) (root t) literals (of_name E i b h e) H)))
 
 -- ---- the whole

@@ -7,10 +7,10 @@ use Prim.Native.Nat.{ℕ}
 use native.Mathlib.Omega.{arith}
 use Rattle.sedona_geometry.specs.Lists.{All}
 use Rattle.sedona_expr.specs.Statistics.{totals_overflow, counts_overflow, merge_parts, merge_value, plus_zero, step, fold_from, fold}
-use Rattle.sedona_expr.specs.Demand.{Some}
+use Rattle.sedona_expr.specs.Demand.{Any}
 use Rattle.sedona_expr.specs.Error as error
 use Rattle.sedona_expr.specs.declared.statistics.GeoStatistics.{GeoStatistics}
-use Rattle.sedona_expr.specs.declared.statistics.Folded.{Folded}
+use Rattle.sedona_expr.specs.Statistics.{Folded}
 
 abbrev pub overflow : GeoStatistics → GeoStatistics → Bool
 overflow a b = totals_overflow a b || counts_overflow a b
@@ -86,21 +86,21 @@ unfolding fold_from step
 fold_first r rs = refl
 
 -- ---- what a fold keeps
-pub some_map : {A : Type 0} (P Q : A → Type 0) (xs : List A) → ((x : A) → P x → Q x) → Some P xs → Some Q xs
+pub some_map : {A : Type 0} (P Q : A → Type 0) (xs : List A) → ((x : A) → P x → Q x) → Any P xs → Any Q xs
 some_map P Q [] f h = absurd h
 some_map P Q (x ∷ xs) f h = ⊎_elim (λ p. inl (f x p)) (λ q. inr (some_map P Q xs f q)) h
 
 -- where I is so of each record, and merging and handing on keep it so
 module _ (I P : GeoStatistics → Type 0) (both : (a b : GeoStatistics) → I a → I b → I (merge_parts a b)) (alone : (a : GeoStatistics) → I a → I (plus_zero a))
     (either : (a b : GeoStatistics) → I a → I b → P a ⊎ P b → P (merge_parts a b)) (same : (a : GeoStatistics) → I a → P a → P (plus_zero a)) where
-  merged_keeps : (a : GeoStatistics) (rs : List GeoStatistics) → I a → All I rs → P a ⊎ Some P rs → P (merge_all a rs)
+  merged_keeps : (a : GeoStatistics) (rs : List GeoStatistics) → I a → All I rs → P a ⊎ Any P rs → P (merge_all a rs)
   merged_keeps a [] i h p = ⊎_elim (λ q. q) (λ q. absurd q) p
   merged_keeps a (r ∷ rs) i h p =
       let keep = either a r i h.0 in
       merged_keeps (merge_parts a r) rs (both a r i h.0) h.1 (⊎_elim (λ q. inl (keep (inl q))) (λ q. ⊎_elim (λ s. inl (keep (inr s))) (λ s. inr s) q) p)
 
   -- What merging keeps of either record, a fold keeps of any.
-  pub fold_keeps : (rs : List GeoStatistics) → All I rs → (fold rs).number ≡ 0 → Some P rs → P (fold rs).rec
+  pub fold_keeps : (rs : List GeoStatistics) → All I rs → (fold rs).number ≡ 0 → Any P rs → P (fold rs).rec
   fold_keeps [] h e p = absurd p
   fold_keeps (r ∷ rs) h e p =
       let f = fits_of_fold (plus_zero r) rs (rw (fold_first r rs) at e) in
@@ -113,5 +113,5 @@ all_any (r ∷ rs) = (tt, all_any rs)
 
 -- the same where merging keeps it of any two records
 pub fold_keeps_any : (P : GeoStatistics → Type 0) → ((a b : GeoStatistics) → P a ⊎ P b → P (merge_parts a b)) → ((a : GeoStatistics) → P a → P (plus_zero a))
-    → (rs : List GeoStatistics) → (fold rs).number ≡ 0 → Some P rs → P (fold rs).rec
+    → (rs : List GeoStatistics) → (fold rs).number ≡ 0 → Any P rs → P (fold rs).rec
 fold_keeps_any P either same rs = fold_keeps (λ r. Unit {0}) P (λ a b i j. tt) (λ a i. tt) (λ a b i j. either a b) (λ a i. same a) rs (all_any rs)

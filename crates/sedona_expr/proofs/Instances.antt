@@ -1,5 +1,6 @@
 -- The hypotheses of the theorems can be met: by two records with boxes and totals, which fit, one of them with types; and a total that leaves its range is refused.
 -- And what calls give of a record with −0 is computed. Assumes nothing.
+use Rattle.std.specs.Prelude.{Option, Some, None}
 use mathlib.Core.Path.{◌≡◌, refl}
 use mathlib.Core.Logic.{inl}
 use mathlib.Core.Bool.{true}
@@ -12,7 +13,6 @@ use Rattle.sedona_geometry.specs.Interval as interval
 use Rattle.sedona_geometry.specs.WraparoundInterval as wraparound
 use Rattle.sedona_geometry.specs.BoundingBox.{join_known, merge_box}
 use Rattle.sedona_geometry.specs.Types.{from_bits, has}
-use Rattle.sedona_geometry.specs.declared.bounding_box.Dimension.{Dimension}
 use Rattle.sedona_geometry.specs.declared.types.GeometryTypeAndDimensionsSet.{GeometryTypeAndDimensionsSet}
 use Rattle.sedona_geometry.proofs.Instances as boxes
 use Rattle.sedona_geometry.specs.Lists.{All}
@@ -22,21 +22,19 @@ use Rattle.sedona_expr.specs.Tables.{table, Lookup, by_position, by_name, are_be
 use Rattle.sedona_expr.specs.Tables as tables
 use Rattle.sedona_expr.specs.Refusals.{or_else, words_refusal, good_flag, literals_refusal, wrong_names, lengths_refusal, values_refusal, twice_refusal, records_refusal, pair_refusal, is_lent, column_refusal, leaf_refusal, node_refusal, uses_by, uses_refusal, table_refusal, tree_refusal, refusal}
 use Rattle.sedona_expr.specs.Demand.{HasBox, MissingOrRising, HasTypes}
-use Rattle.sedona_expr.specs.declared.statistics.Bbox.{Bbox}
-use Rattle.sedona_expr.specs.declared.statistics.GeometryTypes.{GeometryTypes}
-use Rattle.sedona_expr.specs.declared.statistics.Total.{Total}
 use Rattle.sedona_expr.specs.declared.statistics.GeoStatistics.{GeoStatistics}
 use Rattle.sedona_expr.proofs.HasZ.{fold_types, fold_z}
 use Rattle.sedona_expr.proofs.Theorems as theorems
+use Rattle.sedona_geometry.specs.declared.bounding_box.BoundingBox.{BoundingBox}
 
 -- No geometries but in a box, of these types, and some points.
-abbrev pub reading : Bbox → GeometryTypes → ℤ → GeoStatistics
+abbrev pub reading : Option BoundingBox → Option GeometryTypeAndDimensionsSet → ℤ → GeoStatistics
 reading c t n = record {
   bbox = c;
   geometry_types = t;
   total_geometries = empty.total_geometries;
   total_size_bytes = empty.total_size_bytes;
-  total_points = Total.Known n;
+  total_points = Some n;
   puntal_count = empty.puntal_count;
   lineal_count = empty.lineal_count;
   polygonal_count = empty.polygonal_count;
@@ -50,10 +48,10 @@ abbrev pub point_z : GeometryTypeAndDimensionsSet
 point_z = from_bits (2 ^ 9)
 
 abbrev pub first : GeoStatistics
-first = reading (Bbox.Known boxes.a) (GeometryTypes.Known point_z) (pos 3)
+first = reading (Some boxes.a) (Some point_z) (pos 3)
 
 abbrev pub second : GeoStatistics
-second = reading (Bbox.Known boxes.b) GeometryTypes.Missing (pos 4)
+second = reading (Some boxes.b) None (pos 4)
 
 abbrev pub records : List GeoStatistics
 records = first ∷ second ∷ []
@@ -68,7 +66,7 @@ doubles = (boxes.a_doubles, (boxes.b_doubles, tt))
 pub no_less : All (λ r. NoLess (fold records).rec.bbox r.bbox) records
 no_less = theorems.no_box_shrinks records doubles fits
 
-pub points_are_seven : total points (fold records).rec ≡ Total.Known (pos 7)
+pub points_are_seven : total points (fold records).rec ≡ Some (pos 7)
 points_are_seven = theorems.totals_are_sums points first (second ∷ []) fits
 
 pub types_are_kept : HasTypes (λ t. (k : ℕ) → has point_z k ≡ true → has t k ≡ true) (fold records).rec.geometry_types
@@ -92,38 +90,38 @@ pub no_less_in_tree : AllLeaves (λ r. NoLess (merge_tree tree).rec.bbox r.bbox)
 no_less_in_tree = theorems.no_box_shrinks_in_trees tree (boxes.a_doubles, boxes.b_doubles) tree_fits
 
 -- 2^63 − 1 plus 0 fits, plus 1 does not.
-pub at_the_limit : (fold (reading Bbox.Missing GeometryTypes.Missing most ∷ reading Bbox.Missing GeometryTypes.Missing (pos 0) ∷ [])).number ≡ 0
+pub at_the_limit : (fold (reading None None most ∷ reading None None (pos 0) ∷ [])).number ≡ 0
 unfolding is_outside sum_is_outside totals_overflow counts_overflow merge_value step fold_from
 at_the_limit = refl
 
-pub over_the_limit : (fold (reading Bbox.Missing GeometryTypes.Missing most ∷ reading Bbox.Missing GeometryTypes.Missing (pos 1) ∷ [])).number ≡ 3
+pub over_the_limit : (fold (reading None None most ∷ reading None None (pos 1) ∷ [])).number ≡ 3
 unfolding is_outside sum_is_outside totals_overflow counts_overflow merge_value step fold_from
 over_the_limit = refl
 
 -- ---- request 6: a record whose box a caller filled with −0
-abbrev signed : Bbox
-signed = Bbox.Known (record { x = boxes.signed_x; y = boxes.signed; z = Dimension.Known boxes.signed; m = Dimension.Known boxes.signed })
+abbrev signed : Option BoundingBox
+signed = Some (record { x = boxes.signed_x; y = boxes.signed; z = Some boxes.signed; m = Some boxes.signed })
 
-abbrev unsigned : Bbox
-unsigned = Bbox.Known (record { x = boxes.unsigned_x; y = boxes.unsigned; z = Dimension.Known boxes.unsigned; m = Dimension.Known boxes.unsigned })
+abbrev unsigned : Option BoundingBox
+unsigned = Some (record { x = boxes.unsigned_x; y = boxes.unsigned; z = Some boxes.unsigned; m = Some boxes.unsigned })
 
-abbrev with_zeros : Bbox → ℤ → GeoStatistics
-with_zeros b n = reading b GeometryTypes.Missing n
+abbrev with_zeros : Option BoundingBox → ℤ → GeoStatistics
+with_zeros b n = reading b None n
 
 -- merged with itself, kept by a missing box on either side, folded alone, and with a missing one: +0
-pub plus_zeros : All (λ (c : Bbox × Bbox). c.0 ≡ c.1) (
+pub plus_zeros : All (λ (c : Option BoundingBox × Option BoundingBox). c.0 ≡ c.1) (
     ((merge_value (with_zeros signed (pos 0)) (with_zeros signed (pos 0))).rec.bbox, unsigned) ∷
-    ((merge_value (with_zeros signed (pos 0)) (with_zeros Bbox.Missing (pos 0))).rec.bbox, unsigned) ∷
-    ((merge_value (with_zeros Bbox.Missing (pos 0)) (with_zeros signed (pos 0))).rec.bbox, unsigned) ∷
-    ((merge (with_zeros signed (pos 0)) (with_zeros Bbox.Missing (pos 0))).rec.bbox, unsigned) ∷
+    ((merge_value (with_zeros signed (pos 0)) (with_zeros None (pos 0))).rec.bbox, unsigned) ∷
+    ((merge_value (with_zeros None (pos 0)) (with_zeros signed (pos 0))).rec.bbox, unsigned) ∷
+    ((merge (with_zeros signed (pos 0)) (with_zeros None (pos 0))).rec.bbox, unsigned) ∷
     ((fold (with_zeros signed (pos 0) ∷ [])).rec.bbox, unsigned) ∷
-    ((fold (with_zeros Bbox.Missing (pos 0) ∷ with_zeros signed (pos 0) ∷ [])).rec.bbox, unsigned) ∷
+    ((fold (with_zeros None (pos 0) ∷ with_zeros signed (pos 0) ∷ [])).rec.bbox, unsigned) ∷
     [])
 unfolding sub neg sum round lt eq is_nan min_num max_num interval.is_empty interval.merge_interval wraparound.is_wraparound wraparound.merge_non_empty wraparound.merge_interval join_known merge_box is_outside sum_is_outside totals_overflow counts_overflow merge_bboxes merge_parts merge_value merge_or_keep step fold_from
 plus_zeros = (refl, (refl, (refl, (refl, (refl, (refl, tt))))))
 
 -- a refused merge leaves the record as it was, −0 and all
-pub refused_as_it_was : merge (with_zeros signed most) (with_zeros Bbox.Missing (pos 1)) ≡ record { number = 3; rec = with_zeros signed most }
+pub refused_as_it_was : merge (with_zeros signed most) (with_zeros None (pos 1)) ≡ record { number = 3; rec = with_zeros signed most }
 unfolding is_outside sum_is_outside totals_overflow counts_overflow merge_value merge_or_keep
 refused_as_it_was = refl
 

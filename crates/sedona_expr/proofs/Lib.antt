@@ -1,4 +1,5 @@
 pub mod Canonical
+pub mod Checked
 pub mod Demand3
 pub mod Folds
 pub mod HasZ
@@ -10,6 +11,7 @@ pub mod MayMatch
 pub mod NameSearches
 pub mod Needed
 pub mod Numbers
+pub mod Parts
 pub mod Passing
 pub mod Points
 pub mod Reaches

@@ -1,15 +1,17 @@
 -- How often nodes are children, and the marks that count it. Assumes nothing.
 use mathlib.Core.Path.{◌≡◌, refl, sym, subst, ap, ◌∙◌}
-use mathlib.Core.Bool.{Bool, true, false, ◌&&◌, cond}
-use mathlib.Core.List.{List}
+use mathlib.Core.Bool.{Bool, true, false, cond, and-true}
+use mathlib.Core.List.{List, [], ◌∷◌}
 use Prim.Native.Nat.{ℕ, zero, suc, ◌+◌, ◌-◌, ◌*◌, ◌≤◌, ◌<◌}
 use native.Mathlib.Nat.{add-zero, le_antisymm}
-use native.Mathlib.Numerals.{add-one, sub-one}
+use native.Mathlib.Numerals.{add-one}
 use native.Mathlib.Omega.{arith}
 use lib.Dec.{eqb}
-use lib.ListN.{length, get_or, set, length-set}
-use lib.Seq.{get_or-set_same, get_or-set_other}
+use lib.ListN.{length, get_or, set, take, length-set}
+use lib.Seq.{get_or-set_same, get_or-set_other, take-suc}
 use borrow.Author.Tests.{eqb-true, eqb-false}
+use Rattle.std.specs.List.{list_all}
+use Rattle.std.proofs.lemmas.List.Folds.{list_all-append}
 use Rattle.sedona_expr.specs.Within.{Counted, AtMost}
 use Rattle.sedona_expr.specs.Tables.{word, kind, count, is_pair}
 use Rattle.sedona_expr.specs.Refusals.{one, uses_by, uses, all_below}
@@ -69,26 +71,11 @@ pair_test ns n k b v e f g = rw (← e, ← f) g
 pub uses_next : (ns ms ms₁ : List ℕ) (n : ℕ) → Counted ms (uses ns n) → Counted ms₁ (λ m. get_or ms m 0 + uses_by ns n m) → Counted ms₁ (uses ns (n + 1))
 uses_next ns ms ms₁ n c d = (d.0, λ m h. rw (add-one n) (d.1 m h ∙ ap (λ (k : ℕ). k + uses_by ns n m) (c.1 m h)))
 
--- ---- of all numbers below n
-pub below_not : (p : ℕ → Bool) (i : ℕ) → 0 < i → p (i - 1) ≡ false → all_below p i ≡ false
-below_not p zero h e = absurd (omega arith)
-below_not p (suc i) h e = rw (rw (sub-one (suc i)) at e) (and_false (all_below p i))
-  where
-    and_false : (b : Bool) → (b && false) ≡ false
-    and_false true = refl
-    and_false false = refl
-
-pub below_so : (p : ℕ → Bool) (i : ℕ) → 0 < i → p (i - 1) ≡ true → all_below p i ≡ all_below p (i - 1)
-below_so p zero h e = absurd (omega arith)
-below_so p (suc i) h e = rw (sub-one (suc i), rw (sub-one (suc i)) at e) (and_true (all_below p i))
-  where
-    and_true : (b : Bool) → (b && true) ≡ b
-    and_true true = refl
-    and_true false = refl
-
-pub below_none : (p : ℕ → Bool) (i : ℕ) → i ≤ 0 → all_below p i ≡ true
-below_none p zero h = refl
-below_none p (suc i) h = absurd (omega arith)
+-- ---- of all numbers below n, and of all first so many members of a list
+pub all_first : (p : ℕ → Bool) (xs : List ℕ) (n d : ℕ) → n ≤ length xs → list_all p (take n xs) ≡ all_below (λ m. p (get_or xs m d)) n
+all_first p xs zero d h = refl
+all_first p xs (suc n) d h =
+    rw (take-suc xs n d (omega arith), list_all-append p (take n xs) (get_or xs n d ∷ []), all_first p xs n d (omega arith), and-true (p (get_or xs n d)))
 
 pub below_same : (p q : ℕ → Bool) (n : ℕ) → ((m : ℕ) → m < n → p m ≡ q m) → all_below p n ≡ all_below q n
 below_same p q zero h = refl

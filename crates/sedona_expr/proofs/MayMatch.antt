@@ -1,4 +1,5 @@
 -- The first half of demand 3: against the folds of its columns' records, the filter of a row of which it holds may match. Assumes nothing.
+use Rattle.std.specs.Prelude.{Option, None, Some}
 use mathlib.Core.Path.{◌≡◌, refl, sym, subst}
 use mathlib.Core.Logic.{◌⊎◌, inl, inr, ⊎_elim}
 use mathlib.Core.Bool.{true, ◌||◌}
@@ -6,15 +7,13 @@ use mathlib.Core.List.{List, [], ◌∷◌}
 use Rattle.sedona_geometry.specs.Interval as interval
 use Rattle.sedona_geometry.specs.BoundingBox as bounding_box
 use Rattle.sedona_geometry.specs.declared.interval.Interval.{Interval}
-use Rattle.sedona_geometry.specs.declared.bounding_box.Dimension.{Dimension}
 use Rattle.sedona_geometry.specs.declared.bounding_box.BoundingBox.{BoundingBox}
 use Rattle.sedona_geometry.proofs.Booleans.{holds, is_true, or_right}
 use Rattle.sedona_geometry.proofs.Boxes as boxes
 use Rattle.sedona_geometry.specs.Lists.{All}
 use Rattle.sedona_expr.specs.Statistics.{DoublesWhereKnown, NoLess, plus_zero_where_known, merge_bboxes, merge_parts, fold}
 use Rattle.sedona_expr.specs.SpatialFilter.{Column, Filter, intersects, covers, has_z, and, or, literal_false, unknown, may_intersect, may_cover, may_have_z, answer}
-use Rattle.sedona_expr.specs.Demand.{Cell, HasBox, MissingOrRising, HoldsZ, Holds, Leaf, a_has_z, EachLeaf, Some, Folds, HasBit}
-use Rattle.sedona_expr.specs.declared.statistics.Bbox.{Bbox}
+use Rattle.sedona_expr.specs.Demand.{Cell, HasBox, MissingOrRising, HoldsZ, Holds, Leaf, a_has_z, EachLeaf, Any, Folds, HasBit}
 use Rattle.sedona_expr.specs.declared.statistics.GeoStatistics.{GeoStatistics}
 use Rattle.sedona_expr.specs.declared.tables.ColumnRecord.{ColumnRecord}
 use Rattle.sedona_expr.proofs.Folds.{some_map, fold_keeps}
@@ -23,29 +22,29 @@ use Rattle.sedona_expr.proofs.Theorems.{merge_doubles, no_box_shrinks}
 
 -- ---- lists of records
 -- the row's box is one of them, a zero's sign aside
-abbrev Own : Bbox → GeoStatistics → Type 0
+abbrev Own : Option BoundingBox → GeoStatistics → Type 0
 Own own s = plus_zero_where_known s.bbox ≡ plus_zero_where_known own
 
 -- what does not depend on it
-record Signless (P : Bbox → Type 0) : Type 0 where
-  plus : (b : Bbox) → P b → P (plus_zero_where_known b)
-  of_plus : (b : Bbox) → P (plus_zero_where_known b) → P b
+record Signless (P : Option BoundingBox → Type 0) : Type 0 where
+  plus : (b : Option BoundingBox) → P b → P (plus_zero_where_known b)
+  of_plus : (b : Option BoundingBox) → P (plus_zero_where_known b) → P b
 
-signless : (P : Bbox → Type 0) → Signless P → {a b : Bbox} → plus_zero_where_known a ≡ plus_zero_where_known b → P a → P b
+signless : (P : Option BoundingBox → Type 0) → Signless P → {a b : Option BoundingBox} → plus_zero_where_known a ≡ plus_zero_where_known b → P a → P b
 signless P S {a} {b} e h = S.of_plus b (subst P e (S.plus a h))
 
 -- is so of the row's box where it is so of every record's
-of_own : (P : Bbox → Type 0) → Signless P → (rs : List GeoStatistics) (own : Bbox) → All (λ s. P s.bbox) rs → Some (Own own) rs → P own
+of_own : (P : Option BoundingBox → Type 0) → Signless P → (rs : List GeoStatistics) (own : Option BoundingBox) → All (λ s. P s.bbox) rs → Any (Own own) rs → P own
 of_own P S [] own h a = absurd a
 of_own P S (s ∷ rs) own h (inl e) = signless P S e h.0
 of_own P S (s ∷ rs) own h (inr a) = of_own P S rs own h.1 a
 
 -- and of some record's where it is so of the row's
-some_own : (P : Bbox → Type 0) → Signless P → (rs : List GeoStatistics) (own : Bbox) → P own → Some (Own own) rs → Some (λ s. P s.bbox) rs
+some_own : (P : Option BoundingBox → Type 0) → Signless P → (rs : List GeoStatistics) (own : Option BoundingBox) → P own → Any (Own own) rs → Any (λ s. P s.bbox) rs
 some_own P S rs own h = some_map (Own own) (λ s. P s.bbox) rs (λ s e. signless P S (sym e) h)
 
 -- a list that has some record has one of any kind that all are of
-some_of_all : (P Q : GeoStatistics → Type 0) (rs : List GeoStatistics) → All P rs → Some Q rs → Some P rs
+some_of_all : (P Q : GeoStatistics → Type 0) (rs : List GeoStatistics) → All P rs → Any Q rs → Any P rs
 some_of_all P Q [] h a = absurd a
 some_of_all P Q (s ∷ rs) h a = inl h.0
 
@@ -53,11 +52,11 @@ some_of_all P Q (s ∷ rs) h a = inl h.0
 common_interval : {l i j : Interval} → bounding_box.AcceptsAllOf l i → interval.Common i j → interval.Common l j
 common_interval n h = record { number = h.number; double = h.double; left = n h.number h.left; right = h.right }
 
-common_dimensions : (c b k : Dimension) → bounding_box.AcceptsAllOfKnown c b → bounding_box.WhereBothKnown interval.Common b k → bounding_box.WhereBothKnown interval.Common c k
-common_dimensions Dimension.Missing b k n h = tt
-common_dimensions (Dimension.Known l) Dimension.Missing k n h = absurd n
-common_dimensions (Dimension.Known l) (Dimension.Known i) Dimension.Missing n h = tt
-common_dimensions (Dimension.Known l) (Dimension.Known i) (Dimension.Known j) n h = common_interval n h
+common_dimensions : (c b k : Option Interval) → bounding_box.AcceptsAllOfKnown c b → bounding_box.WhereBothKnown interval.Common b k → bounding_box.WhereBothKnown interval.Common c k
+common_dimensions None b k n h = tt
+common_dimensions (Some l) None k n h = absurd n
+common_dimensions (Some l) (Some i) None n h = tt
+common_dimensions (Some l) (Some i) (Some j) n h = common_interval n h
 
 common_no_less : {c b k : BoundingBox} → bounding_box.NoLess c b → bounding_box.Common b k → bounding_box.Common c k
 common_no_less {c} {b} {k} n h = record {
@@ -67,66 +66,66 @@ common_no_less {c} {b} {k} n h = record {
   m = common_dimensions c.m b.m k.m n.m h.m;
 }
 
-no_less_signless : (c : Bbox) → Signless (NoLess c)
+no_less_signless : (c : Option BoundingBox) → Signless (NoLess c)
 no_less_signless c = record { plus = plus c; of_plus = of_plus c }
   where
-    plus : (c b : Bbox) → NoLess c b → NoLess c (plus_zero_where_known b)
-    plus c Bbox.Missing n = tt
-    plus Bbox.Missing (Bbox.Known b) n = absurd n
-    plus (Bbox.Known c) (Bbox.Known b) n = boxes.no_less_trans n (boxes.of_plus_no_less b)
+    plus : (c b : Option BoundingBox) → NoLess c b → NoLess c (plus_zero_where_known b)
+    plus c None n = tt
+    plus None (Some b) n = absurd n
+    plus (Some c) (Some b) n = boxes.no_less_trans n (boxes.of_plus_no_less b)
 
-    of_plus : (c b : Bbox) → NoLess c (plus_zero_where_known b) → NoLess c b
-    of_plus c Bbox.Missing n = tt
-    of_plus Bbox.Missing (Bbox.Known b) n = absurd n
-    of_plus (Bbox.Known c) (Bbox.Known b) n = boxes.no_less_trans n (boxes.plus_no_less b)
+    of_plus : (c b : Option BoundingBox) → NoLess c (plus_zero_where_known b) → NoLess c b
+    of_plus c None n = tt
+    of_plus None (Some b) n = absurd n
+    of_plus (Some c) (Some b) n = boxes.no_less_trans n (boxes.plus_no_less b)
 
-may_intersect_lem : (lent own : Bbox) (k : BoundingBox) → NoLess lent own → HasBox (λ b. bounding_box.Common b k) own → may_intersect lent k ≡ true
+may_intersect_lem : (lent own : Option BoundingBox) (k : BoundingBox) → NoLess lent own → HasBox (λ b. bounding_box.Common b k) own → may_intersect lent k ≡ true
 unfolding may_intersect
-may_intersect_lem Bbox.Missing own k n h = refl
-may_intersect_lem (Bbox.Known c) Bbox.Missing k n h = absurd h
-may_intersect_lem (Bbox.Known c) (Bbox.Known b) k n h = boxes.common_intersect (common_no_less n h)
+may_intersect_lem None own k n h = refl
+may_intersect_lem (Some c) None k n h = absurd h
+may_intersect_lem (Some c) (Some b) k n h = boxes.common_intersect (common_no_less n h)
 
 -- ---- a Covers: a literal that the row's box contains, the fold's box contains
-abbrev Covering : BoundingBox → Bbox → Type 0
+abbrev Covering : BoundingBox → Option BoundingBox → Type 0
 Covering k = HasBox (λ b. bounding_box.contains b k ≡ true)
 
-plus_covering : (k : BoundingBox) (b : Bbox) → Covering k b → Covering k (plus_zero_where_known b)
-plus_covering k Bbox.Missing h = absurd h
-plus_covering k (Bbox.Known b) h = boxes.plus_contains b k h
+plus_covering : (k : BoundingBox) (b : Option BoundingBox) → Covering k b → Covering k (plus_zero_where_known b)
+plus_covering k None h = absurd h
+plus_covering k (Some b) h = boxes.plus_contains b k h
 
 covering_signless : (k : BoundingBox) → Signless (Covering k)
 covering_signless k = record { plus = plus_covering k; of_plus = of_plus }
   where
-    of_plus : (b : Bbox) → Covering k (plus_zero_where_known b) → Covering k b
-    of_plus Bbox.Missing h = absurd h
-    of_plus (Bbox.Known b) h = boxes.of_plus_contains b k h
+    of_plus : (b : Option BoundingBox) → Covering k (plus_zero_where_known b) → Covering k b
+    of_plus None h = absurd h
+    of_plus (Some b) h = boxes.of_plus_contains b k h
 
-merge_covering : (k : BoundingBox) (a b : Bbox) → DoublesWhereKnown a → DoublesWhereKnown b → Covering k a ⊎ Covering k b → Covering k (merge_bboxes a b)
+merge_covering : (k : BoundingBox) (a b : Option BoundingBox) → DoublesWhereKnown a → DoublesWhereKnown b → Covering k a ⊎ Covering k b → Covering k (merge_bboxes a b)
 unfolding merge_bboxes
-merge_covering k Bbox.Missing b D E h = ⊎_elim (λ p. absurd p) (λ q. plus_covering k b q) h
-merge_covering k (Bbox.Known a) Bbox.Missing D E h = ⊎_elim (λ p. plus_covering k (Bbox.Known a) p) (λ q. absurd q) h
-merge_covering k (Bbox.Known a) (Bbox.Known b) D E h = boxes.contains_of_parts (boxes.merge_contains D E (⊎_elim (λ p. inl (boxes.parts_of_contains p)) (λ q. inr (boxes.parts_of_contains q)) h))
+merge_covering k None b D E h = ⊎_elim (λ p. absurd p) (λ q. plus_covering k b q) h
+merge_covering k (Some a) None D E h = ⊎_elim (λ p. plus_covering k (Some a) p) (λ q. absurd q) h
+merge_covering k (Some a) (Some b) D E h = boxes.contains_of_parts (boxes.merge_contains D E (⊎_elim (λ p. inl (boxes.parts_of_contains p)) (λ q. inr (boxes.parts_of_contains q)) h))
 
-may_cover_lem : (o : Bbox) (k : BoundingBox) → Covering k o → may_cover o k ≡ true
+may_cover_lem : (o : Option BoundingBox) (k : BoundingBox) → Covering k o → may_cover o k ≡ true
 unfolding may_cover
-may_cover_lem Bbox.Missing k h = refl
-may_cover_lem (Bbox.Known b) k h = h
+may_cover_lem None k h = refl
+may_cover_lem (Some b) k h = h
 
 -- ---- the leaves
 module _ {f : Leaf} {rs : List GeoStatistics} {own : Cell} {lent : ColumnRecord} (F : Folds f rs own lent) where
-  own_box : Some (Own own.bbox) rs
+  own_box : Any (Own own.bbox) rs
   own_box = some_map _ (Own own.bbox) rs (λ s a. a.0) F.among
 
   fold_no_less : NoLess lent.bbox own.bbox
   fold_no_less = rw F.folded (of_own (NoLess (fold rs).rec.bbox) (no_less_signless (fold rs).rec.bbox) rs own.bbox (no_box_shrinks rs F.doubles F.fit) own_box)
 
   -- what merging two boxes keeps, the fold keeps; a box is handed on as if merged with a missing one
-  fold_keeps_box : (P : Bbox → Type 0) → ((a b : Bbox) → DoublesWhereKnown a → DoublesWhereKnown b → P a ⊎ P b → P (merge_bboxes a b)) → Some (λ s. P s.bbox) rs → P lent.bbox
+  fold_keeps_box : (P : Option BoundingBox → Type 0) → ((a b : Option BoundingBox) → DoublesWhereKnown a → DoublesWhereKnown b → P a ⊎ P b → P (merge_bboxes a b)) → Any (λ s. P s.bbox) rs → P lent.bbox
   unfolding merge_parts merge_bboxes
   fold_keeps_box P keep h =
       rw F.folded
-      (fold_keeps (λ s. DoublesWhereKnown s.bbox) (λ s. P s.bbox) (λ a b. merge_doubles a.bbox b.bbox) (λ a. merge_doubles Bbox.Missing a.bbox tt)
-      (λ a b. keep a.bbox b.bbox) (λ a D p. keep Bbox.Missing a.bbox tt D (inr p)) rs F.doubles F.fit h)
+      (fold_keeps (λ s. DoublesWhereKnown s.bbox) (λ s. P s.bbox) (λ a b. merge_doubles a.bbox b.bbox) (λ a. merge_doubles None a.bbox tt)
+      (λ a b. keep a.bbox b.bbox) (λ a D p. keep None a.bbox tt D (inr p)) rs F.doubles F.fit h)
 
   fold_doubles : DoublesWhereKnown lent.bbox
   fold_doubles = fold_keeps_box DoublesWhereKnown (λ a b D E h. merge_doubles a b D E) (some_of_all (λ s. DoublesWhereKnown s.bbox) (Own own.bbox) rs F.doubles own_box)

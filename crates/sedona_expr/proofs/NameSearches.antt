@@ -12,7 +12,6 @@ use Rattle.sedona_expr.specs.SpatialFilter.{Column, Filter, intersects, covers, 
 use Rattle.sedona_expr.specs.Tables.{Records, record_at, Table, root, by_name, place, record_of}
 use Rattle.sedona_expr.specs.Refusals.{refusal}
 use Rattle.sedona_expr.specs.Calls.{outcome, evaluate}
-use Rattle.sedona_expr.specs.declared.spatial_filter.Evaluation.{Evaluation}
 use Rattle.sedona_expr.specs.declared.tables.ColumnRecord.{ColumnRecord}
 use Rattle.sedona_expr.proofs.Searches.{same_search, place_holds, place_first, place_below}
 
@@ -55,7 +54,7 @@ answer_same r s e unknown = refl
 -- "no caller of the filter should notice": the definition by name, which is what it was, gives the answer of the leaves whose records are where the
 -- search finds their names, numbers included.
 pub no_caller_notices : (ns : List ℕ) (t : Table) (r : Records)
-    → ◌≡◌ {A = Evaluation} (evaluate (by_name ns) t r) (outcome (refusal (by_name ns) t r) (answer (λ c. record_at r (find_name ns c.name).place) (root t)))
+    → evaluate (by_name ns) t r ≡ outcome (refusal (by_name ns) t r) (answer (λ c. record_at r (find_name ns c.name).place) (root t))
 unfolding place
 no_caller_notices ns t r = ap (outcome (refusal (by_name ns) t r)) (answer_same (record_of (by_name ns) r) (λ c. record_at r (find_name ns c.name).place) found (root t))
   where

@@ -6,8 +6,9 @@ use Prim.Native.Nat.{ℕ, zero, suc, ◌%◌, ◌-◌}
 use native.Mathlib.Omega.{arith}
 use lib.Dec.{eqb, ltb}
 use lib.ListN.{length}
+use Rattle.std.specs.Prelude.{Result, Ok, Err}
 use Rattle.sedona_geometry.specs.BoundingBox.{numbered}
-use Rattle.sedona_geometry.specs.declared.bounding_box.NumberedBox.{NumberedBox}
+use Rattle.sedona_geometry.specs.BoundingBox.{NumberedBox}
 use Rattle.sedona_geometry.specs.Lists.{are_all}
 use Rattle.sedona_geometry.proofs.Booleans.{of_cond}
 use Rattle.sedona_expr.specs.Names.{has_twice}
@@ -86,17 +87,16 @@ zero_not_six : NotSix 0
 zero_not_six e = absurd (omega arith)
 
 -- what an answer is refused by, 0 where it is not
-abbrev pub number : Evaluation → ℕ
-number Evaluation.MayMatch = 0
-number Evaluation.CannotMatch = 0
-number (Evaluation.Refused n) = n
+abbrev pub number : Result Evaluation ℕ → ℕ
+number (Ok a) = 0
+number (Err n) = n
 
-outcome_not_six : (n : ℕ) (b : Bool) → NotSix n → ◌≡◌ {A = Evaluation} (outcome n b) (Evaluation.Refused 6) → ⊥
+outcome_not_six : (n : ℕ) (b : Bool) → NotSix n → outcome n b ≡ Err 6 → ⊥
 unfolding outcome
 outcome_not_six n b h e = of_cond (λ a. NotSix (number a)) (eqb n 0) (of_cond (λ a. NotSix (number a)) b zero_not_six zero_not_six) h (ap number e)
 
 -- "Number 6 no longer occurs": no filter call gives it.
-pub six_is_not_given : (l : Lookup) (t : Table) (r : Records) → ◌≡◌ {A = Evaluation} (evaluate l t r) (Evaluation.Refused 6) → ⊥
+pub six_is_not_given : (l : Lookup) (t : Table) (r : Records) → evaluate l t r ≡ Err 6 → ⊥
 six_is_not_given l t r =
     outcome_not_six (refusal l t r) (answer (record_of l r) (root t))
     (of_refusal NotSix zero_not_six (λ e. omega arith) (λ e. omega arith) (λ e. omega arith) (λ e. omega arith) (λ e. omega arith) (λ e. omega arith) (λ e. omega arith) l t r)

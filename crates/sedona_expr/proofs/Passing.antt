@@ -1,5 +1,6 @@
 -- What the refusals let pass: as many words as make 1 node to 1,024, so many doubles a flag; and `filter_bbox` refuses no table that a filter call takes.
 -- Assumes nothing.
+use Rattle.sedona_expr.specs.Error.{number_is_not_zero}
 use mathlib.Core.Path.{◌≡◌, refl, sym, subst, ◌∙◌}
 use mathlib.Core.Bool.{Bool, true, false, not, ◌&&◌, ◌||◌, cond}
 use mathlib.Core.List.{List}
@@ -9,10 +10,16 @@ use native.Mathlib.Omega.{arith}
 use lib.Dec.{eqb, ltb}
 use lib.ListN.{length}
 use borrow.Author.Tests.{eqb-true, eqb-false, eq-eqb, ne_eqb, ltb-true, ltb-false}
+use Rattle.std.specs.Prelude.{Result, ⊤}
+use Rattle.std.specs.Result.{IsErrAnd}
+use Rattle.std.proofs.lemmas.Result.{err_from_is_err_and}
 use Rattle.sedona_geometry.proofs.Booleans.{fails}
 use Rattle.sedona_expr.specs.Within.{HaveMarks}
 use Rattle.sedona_expr.specs.Error as error
+use Rattle.sedona_expr.specs.Calls.{outcome}
+use Rattle.sedona_expr.specs.declared.spatial_filter.Evaluation.{Evaluation}
 use Rattle.sedona_expr.specs.Tables.{ends, Records, Table, Lookup, kind, word, count, is_pair, is_leaf, are_below}
+use Rattle.sedona_expr.specs.declared.error.Refusal.{Refusal}
 use Rattle.sedona_expr.specs.declared.refusals.Lent.{Lent}
 use Rattle.sedona_expr.specs.Refusals.{or_else, refuse_if, words_refusal, any, columns_of, lent_to, is_lent, column_refusal, leaf_refusal, pair_refusal, node_refusal, nodes_refusal, uses_refusal, table_refusal, tree_refusal, records_refusal, refusal, box_refusal}
 
@@ -38,6 +45,23 @@ or_else_stop {m} {n} k e h = rw (← e, ne_eqb n 0 h)
 pub or_else_next : {m n k o : ℕ} → n ≡ m → n ≡ 0 → o ≡ k → o ≡ or_else m k
 unfolding or_else
 or_else_next e h f = rw (← e, h) f
+
+-- where the check of the first refused, by e: r is what its `?` answers
+pub stop : {m : ℕ} (r : Result ⊤ Refusal) (e : Refusal) (k : ℕ) → IsErrAnd r (λ y. y ≡ e) → error.number e ≡ m → error.number_of r ≡ or_else m k
+stop r e k is h =
+    let p = err_from_is_err_and r is in
+    rw (p.1, p.2) (or_else_stop k h (number_is_not_zero e))
+
+-- and so an answer is refused
+pub refused : {n : ℕ} (r : Result Evaluation Refusal) (e : Refusal) (b : Bool) → IsErrAnd r (λ y. y ≡ e) → error.number e ≡ n → error.with_number r ≡ outcome n b
+unfolding outcome
+refused r e b is h =
+    let p = err_from_is_err_and r is in
+    rw (p.1, p.2, ← h, ne_eqb (error.number e) 0 (number_is_not_zero e))
+
+-- where it let pass
+pub next : {m k o : ℕ} → 0 ≡ m → o ≡ k → o ≡ or_else m k
+next h f = or_else_next h refl f
 
 -- it is 0 where both are
 pub or_else_zero : (m n : ℕ) → or_else m n ≡ 0 → (m ≡ 0) × (n ≡ 0)
@@ -110,17 +134,17 @@ words_pass ns = go (eqb (length ns) 0) (eqb (length ns % 4) 0) (ltb 4096 (length
         let d : (length ns ≡ 0 → ⊥) = eqb-false (length ns) 0 e in
         (omega (arith, eqb-true (length ns % 4) 0 f), ltb-false 4096 (length ns) g)
 
-pub table_pass : (t : Table) (n : ℕ) → n ≡ table_refusal t → n ≡ 0 → (1 ≤ count t.nodes) × (length t.nodes ≤ 4096)
+pub table_pass : (t : Table) → table_refusal t ≡ 0 → (1 ≤ count t.nodes) × (length t.nodes ≤ 4096)
 unfolding table_refusal
-table_pass t n is e = words_pass t.nodes (or_else_zero (words_refusal t.nodes) _ (sym is ∙ e)).0
+table_pass t h = words_pass t.nodes (or_else_zero (words_refusal t.nodes) _ h).0
 
-pub refusal_pass : (l : Lookup) (t : Table) (r : Records) (n : ℕ) → n ≡ refusal l t r → n ≡ 0 → (1 ≤ count t.nodes) × (length t.nodes ≤ 4096)
+pub refusal_pass : (l : Lookup) (t : Table) (r : Records) → refusal l t r ≡ 0 → (1 ≤ count t.nodes) × (length t.nodes ≤ 4096)
 unfolding refusal
-refusal_pass l t r n is e = table_pass t (table_refusal t) refl (or_else_zero (table_refusal t) _ (sym is ∙ e)).0
+refusal_pass l t r h = table_pass t (or_else_zero (table_refusal t) _ h).0
 
-pub box_refusal_pass : (t : Table) (n : ℕ) → n ≡ box_refusal t → n ≡ 0 → (1 ≤ count t.nodes) × (length t.nodes ≤ 4096)
+pub box_refusal_pass : (t : Table) → box_refusal t ≡ 0 → (1 ≤ count t.nodes) × (length t.nodes ≤ 4096)
 unfolding box_refusal
-box_refusal_pass t n is e = table_pass t (table_refusal t) refl (or_else_zero (table_refusal t) _ (sym is ∙ e)).0
+box_refusal_pass t h = table_pass t (or_else_zero (table_refusal t) _ h).0
 
 -- ---- which numbers are 0
 or_else_none : {m n : ℕ} → m ≡ 0 → n ≡ 0 → or_else m n ≡ 0

@@ -1,11 +1,11 @@
 -- A point, and what contains it: all there is, a literal that has a common number with it, and a literal that it contains. Assumes nothing.
+use Rattle.std.specs.Prelude.{Option, Some, None}
 use mathlib.Core.Path.{◌≡◌, refl, sym, ◌∙◌}
 use mathlib.Core.Bool.{true, false}
 use Rattle.sedona_geometry.specs.Interval as interval
 use Rattle.sedona_geometry.specs.BoundingBox as bounding_box
 use Rattle.sedona_geometry.specs.BoundingBox.{WhereKnown, WhereBothKnown, Both, Each, Doubles, test_known, dimensions_contain}
 use Rattle.sedona_geometry.specs.declared.interval.Interval.{Interval}
-use Rattle.sedona_geometry.specs.declared.bounding_box.Dimension.{Dimension}
 use Rattle.sedona_geometry.specs.declared.bounding_box.BoundingBox.{BoundingBox}
 use Rattle.sedona_geometry.proofs.Booleans.{holds}
 use Rattle.sedona_geometry.proofs.Order.{infinite, Le, le_of_eq, le_back, le_trans, le_number, bottom, top}
@@ -50,11 +50,11 @@ Pair R = Both (λ x y. R x.inner y.inner) R (WhereBothKnown R)
 
 -- where it turns a point's interval into one that is contained, it does so of boxes
 module _ (R : Interval → Interval → Type 0) (turn : (i j : Interval) → Point i → Rising j → R i j → Contains j i) where
-  dimension_reaches : (k d : Dimension) → WhereKnown Rising k → WhereKnown Point d → WhereBothKnown R d k → dimensions_contain k d ≡ true
+  dimension_reaches : (k d : Option Interval) → WhereKnown Rising k → WhereKnown Point d → WhereBothKnown R d k → dimensions_contain k d ≡ true
   unfolding test_known
-  dimension_reaches Dimension.Missing d l p r = refl
-  dimension_reaches (Dimension.Known j) Dimension.Missing l p r = refl
-  dimension_reaches (Dimension.Known j) (Dimension.Known i) l p r = (turn i j p l r).holds
+  dimension_reaches None d l p r = refl
+  dimension_reaches (Some j) None l p r = refl
+  dimension_reaches (Some j) (Some i) l p r = (turn i j p l r).holds
 
   pair_reaches : {b k : BoundingBox} → Doubles b → Doubles k → Each Point b → Each Rising k → Pair R b k → Parts k b
   pair_reaches {b} {k} D E p l r = record {
@@ -91,11 +91,11 @@ contained_contains i j p l c =
     let h = inside c in
     contains (le_trans l (le_trans h.1 p.down)) (le_trans p.down (le_trans h.0 l))
 
-known_contains : (d k : Dimension) → dimensions_contain d k ≡ true → WhereBothKnown Contains d k
+known_contains : (d k : Option Interval) → dimensions_contain d k ≡ true → WhereBothKnown Contains d k
 unfolding test_known
-known_contains Dimension.Missing k h = tt
-known_contains (Dimension.Known i) Dimension.Missing h = tt
-known_contains (Dimension.Known i) (Dimension.Known j) h = record { holds = h }
+known_contains None k h = tt
+known_contains (Some i) None h = tt
+known_contains (Some i) (Some j) h = record { holds = h }
 
 pub contained_reaches : {b k : BoundingBox} → Doubles b → Doubles k → Each Point b → Each Rising k → Parts b k → Parts k b
 contained_reaches {b} {k} D E p l c =

@@ -1,4 +1,5 @@
 -- A filter's box for a column: its x runs straight, and it contains the column's point where the filter holds of the row. Assumes nothing.
+use Rattle.std.specs.Prelude.{Some}
 use mathlib.Core.Path.{◌≡◌, refl}
 use mathlib.Core.Logic.{inl, inr, ⊎_elim}
 use mathlib.Core.Bool.{Bool, true, false, cond}
@@ -13,7 +14,6 @@ use Rattle.sedona_geometry.proofs.Boxes.{Parts, Rising, parts_of_contains, merge
 use Rattle.sedona_geometry.proofs.Booleans.{of_cond}
 use Rattle.sedona_expr.specs.SpatialFilter.{Column, Filter, intersects, covers, has_z, and, or, literal_false, unknown, full, box_for}
 use Rattle.sedona_expr.specs.Demand.{Cell, HasBox, Holds, EachLeaf, OfLiteral}
-use Rattle.sedona_expr.specs.declared.statistics.Bbox.{Bbox}
 use Rattle.sedona_expr.proofs.Points.{Point, point_low_to_high, full_reaches, common_reaches, contained_reaches}
 use Rattle.sedona_expr.proofs.StraightBoxes.{StraightBox, empty_straight, full_straight, merge_straight, intersection_straight, intersection_contains}
 
@@ -41,7 +41,7 @@ box_straight n unknown L = full_straight
 -- ---- where the filter holds, the box contains the point of the columns of that name
 module _ (n : ℕ) (own : Column → Cell) (b : BoundingBox) (D : Doubles b) (p : Each Point b) where
   abbrev OfName : Column → Type 0
-  OfName c = c.name ≡ n → (own c).bbox ≡ Bbox.Known b
+  OfName c = c.name ≡ n → (own c).bbox ≡ Some b
 
   leaf_reaches : (c : Column) (k : BoundingBox) (P : BoundingBox → Type 0) → OfName c → (P b → Parts k b) → HasBox P (own c).bbox → Parts (cond (eqb c.name n) k full) b
   leaf_reaches c k P e g h = go (eqb c.name n) refl

@@ -1,25 +1,24 @@
 -- Searches and tests along a list of names or flags, one place at a time; names of which none comes twice differ. Assumes nothing.
 use mathlib.Core.Path.{◌≡◌, refl, sym, ap, ◌∙◌}
 use mathlib.Core.Bool.{Bool, true, false, not, ◌&&◌, ◌||◌, cond, and-true, and_assoc}
-use mathlib.Core.List.{List, [], ◌∷◌}
-use Prim.Native.Nat.{ℕ, zero, suc, ◌+◌, ◌-◌, ◌≤◌, ◌<◌}
+use mathlib.Core.List.{List, [], ◌∷◌, ◌++◌}
+use Prim.Native.Nat.{ℕ, zero, suc, ◌+◌, ◌≤◌, ◌<◌}
 use native.Mathlib.Numerals.{add-one}
 use native.Mathlib.Omega.{arith}
 use lib.Dec.{eqb}
-use lib.ListN.{length, get_or, take, drop, length-drop, drop_of_length-le}
+use lib.ListN.{length, get_or, drop, length-drop, length-append, drop_of_length-le}
 use lib.Seq.{drop-cons, drop-drop}
 use borrow.Author.Tests.{eqb-true, eqb-false, eq-eqb, ne_eqb, ltb-false}
 use Rattle.sedona_geometry.proofs.Booleans.{fails}
 use Rattle.sedona_geometry.specs.Lists.{are_all}
 use Rattle.sedona_expr.specs.Within.{is_other, behind}
-use Rattle.sedona_expr.specs.Names.{hit_at_once, further, find_name, place_of, is_among, has_twice}
-use Rattle.sedona_expr.specs.declared.names.NameSearch.{NameSearch}
+use Rattle.sedona_expr.specs.Names.{Search, hit_at_once, further, find_name, place_of, is_among, has_twice}
 
 pub rest : {A : Type 0} (xs : List A) (i : ℕ) (d : A) → i < length xs → drop i xs ≡ get_or xs i d ∷ drop (i + 1) xs
 rest xs i d h = rw (add-one i) (drop-cons xs i d h)
 
 -- ---- the search for a name: one that begins behind so many names, a name at a time
-pub same_search : {h : Bool} {p q c d : ℕ} → p ≡ q → c ≡ d → ◌≡◌ {A = NameSearch} (record { hit = h; place = p; compared = c }) (record { hit = h; place = q; compared = d })
+pub same_search : {h : Bool} {p q c d : ℕ} → p ≡ q → c ≡ d → ◌≡◌ {A = Search} (record { hit = h; place = p; compared = c }) (record { hit = h; place = q; compared = d })
 same_search e f = rw (e, f) refl
 
 pub find_all : (ns : List ℕ) (n : ℕ) → find_name ns n ≡ behind 0 (find_name (drop 0 ns) n)
@@ -33,23 +32,43 @@ pub find_next : (ns : List ℕ) (i n : ℕ) → i < length ns → (get_or ns i 0
 unfolding find_name
 find_next ns i n h e = rw (rest ns i 0 h, ne_eqb (get_or ns i 0) n e) (same_search (omega arith) (omega arith))
 
--- past any number of names of which none is a hit
-pass : (ms : List ℕ) (k n : ℕ) → k ≤ length ms → are_all (is_other n) (take k ms) ≡ true → find_name ms n ≡ behind k (find_name (drop k ms) n)
+-- past names of which none is a hit
+pass : (ms ns : List ℕ) (n : ℕ) → are_all (is_other n) ms ≡ true → find_name (ms ++ ns) n ≡ behind (length ms) (find_name ns n)
 unfolding find_name
-pass ms zero n h e = find_all ms n
-pass [] (suc k) n h e = absurd (omega arith)
-pass (m ∷ ms) (suc k) n h e = go (eqb m n) (pass ms k n (omega arith)) e
+pass [] ns n e = find_all ns n
+pass (m ∷ ms) ns n e = go (eqb m n) (pass ms ns n) e
   where
-    go : (b : Bool) → (are_all (is_other n) (take k ms) ≡ true → find_name ms n ≡ behind k (find_name (drop k ms) n)) → (not b && are_all (is_other n) (take k ms)) ≡ true
-        → cond b hit_at_once (further (find_name ms n)) ≡ behind (suc k) (find_name (drop k ms) n)
+    go : (b : Bool) → (are_all (is_other n) ms ≡ true → find_name (ms ++ ns) n ≡ behind (length ms) (find_name ns n)) → (not b && are_all (is_other n) ms) ≡ true
+        → cond b hit_at_once (further (find_name (ms ++ ns) n)) ≡ behind (suc (length ms)) (find_name ns n)
     go true f e = absurd (fails (sym e) tt)
     go false f e = ap further (f e) ∙ same_search (omega arith) (omega arith)
 
-pub find_past : (ns : List ℕ) (i j n : ℕ) → i ≤ j → j ≤ length ns → are_all (is_other n) (take (j - i) (drop i ns)) ≡ true
-    → behind i (find_name (drop i ns) n) ≡ behind j (find_name (drop j ns) n)
-find_past ns i j n h l e =
-    let d : i + (j - i) ≡ j = omega arith in
-    ap (behind i) (pass (drop i ns) (j - i) n (omega (arith, length-drop i ns)) e) ∙ rw (drop-drop (j - i) i ns, d) (same_search (omega arith) (omega arith))
+-- The first so many names are no hit, and these are left.
+pub record Passed (ns : List ℕ) (n i : ℕ) (left : List ℕ) : Type 0 where
+  pub left_is : left ≡ drop i ns
+  pub within : i ≤ length ns
+  pub search : find_name ns n ≡ behind i (find_name left n)
+
+pub pass_none : (ns : List ℕ) (n : ℕ) (left : List ℕ) → left ≡ ns → Passed ns n 0 left
+pass_none ns n left e = record {
+  left_is = e;
+  within = omega arith;
+  search = rw e (find_all ns n);
+}
+
+pub passed_search : (ns : List ℕ) (n i : ℕ) (left : List ℕ) → Passed ns n i left → (i ≤ length ns) × (find_name ns n ≡ behind i (find_name (drop i ns) n))
+passed_search ns n i left p = (p.within, rw (← p.left_is) p.search)
+
+pub pass_step : (ns : List ℕ) (n i k : ℕ) (left ms after : List ℕ) → Passed ns n i left → left ≡ ms ++ after → length ms ≡ k → are_all (is_other n) ms ≡ true → Passed ns n (i + k) after
+pass_step ns n i k left ms after p e l o = record {
+  left_is = sym (drop_back ms after) ∙ rw (l, ← e, p.left_is, drop-drop k i ns);
+  within = omega (arith, length-drop i ns, ap (length {A = ℕ}) (sym p.left_is ∙ e), length-append ms after);
+  search = p.search ∙ rw e (ap (behind i) (pass ms after n o) ∙ rw l (same_search (omega arith) (omega arith)));
+}
+  where
+    drop_back : (xs ys : List ℕ) → drop (length xs) (xs ++ ys) ≡ ys
+    drop_back [] ys = refl
+    drop_back (x ∷ xs) ys = drop_back xs ys
 
 pub find_end : (ns : List ℕ) (i n : ℕ) → length ns ≤ i → behind i (find_name (drop i ns) n) ≡ record { hit = false; place = i; compared = i }
 unfolding find_name

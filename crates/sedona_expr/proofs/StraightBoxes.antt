@@ -1,12 +1,12 @@
 -- Boxes whose x runs straight, empty or low to high: merging and intersecting keep them so, and an intersection contains what both contain.
 -- Assumes nothing.
+use Rattle.std.specs.Prelude.{Option, Some, None}
 use mathlib.Core.Path.{◌≡◌, refl}
 use mathlib.Core.Bool.{true, false}
 use lib.Ieee.{eq, sub}
 use Rattle.sedona_geometry.specs.Interval as interval
 use Rattle.sedona_geometry.specs.BoundingBox as bounding_box
 use Rattle.sedona_geometry.specs.BoundingBox.{Doubles, WhereKnown, join_known, intersect_dimensions, merge_box}
-use Rattle.sedona_geometry.specs.declared.bounding_box.Dimension.{Dimension}
 use Rattle.sedona_geometry.specs.declared.bounding_box.BoundingBox.{BoundingBox}
 use Rattle.sedona_geometry.proofs.Order.{infinite, bottom}
 use Rattle.sedona_geometry.proofs.Accepts as plain
@@ -16,6 +16,7 @@ use Rattle.sedona_geometry.proofs.Contains.{Straight}
 use Rattle.sedona_geometry.proofs.Boxes as boxes
 use Rattle.sedona_geometry.proofs.Boxes.{Parts, met}
 use Rattle.sedona_expr.specs.SpatialFilter.{full, or_full}
+use Rattle.sedona_geometry.specs.declared.interval.Interval.{Interval}
 
 pub record StraightBox (b : BoundingBox) : Type 0 where
   pub doubles : Doubles b
@@ -41,11 +42,11 @@ merge_straight {a} {b} s t = record {
   x = rw (boxes.merge_is a b) (containing.merge_straight s.doubles.x t.doubles.x s.x t.x);
 }
 
-intersect_dimensions_doubles : (d e : Dimension) → WhereKnown interval.Doubles d → WhereKnown interval.Doubles e → WhereKnown interval.Doubles (intersect_dimensions d e)
+intersect_dimensions_doubles : (d e : Option Interval) → WhereKnown interval.Doubles d → WhereKnown interval.Doubles e → WhereKnown interval.Doubles (intersect_dimensions d e)
 unfolding join_known
-intersect_dimensions_doubles Dimension.Missing e D E = tt
-intersect_dimensions_doubles (Dimension.Known i) Dimension.Missing D E = tt
-intersect_dimensions_doubles (Dimension.Known i) (Dimension.Known j) D E = containing.intersection_doubles D E
+intersect_dimensions_doubles None e D E = tt
+intersect_dimensions_doubles (Some i) None D E = tt
+intersect_dimensions_doubles (Some i) (Some j) D E = containing.intersection_doubles D E
 
 met_straight : {a b : BoundingBox} → StraightBox a → StraightBox b → StraightBox (met a b)
 met_straight {a} {b} s t =

@@ -1,5 +1,6 @@
 -- What callers of the fold rely on: no box shrinks, merged totals are sums, totals that fit are never refused; and no box shrinks along any
 -- tree of merges. Assumes nothing.
+use Rattle.std.specs.Prelude.{Option, Some, None, Float}
 use mathlib.Core.Logic.{◌⊎◌, inl}
 use mathlib.Core.Path.{◌≡◌, refl, sym, subst, ap, ◌∙◌}
 use mathlib.Core.Bool.{Bool, true, false, ◌||◌, cond}
@@ -12,51 +13,49 @@ use Rattle.sedona_geometry.specs.Lists.{All}
 use Rattle.sedona_expr.specs.Within.{SumsStay}
 use Rattle.sedona_expr.specs.Statistics.{plus_zero_where_known, merge_bboxes, add_extents, add_totals, sum_is_outside, totals_overflow, counts_overflow, merge_parts, plus_zero, refused, merge_value, fold_from, fold, DoublesWhereKnown, NoLess, Which, geometries, size_bytes, points, puntal, lineal, polygonal, collection, total, Side, width, height, extent, plus, sum, whole_sum, add_all, PrefixSumsFit, Tree, leaf, node, merge_answers, merge_tree, AllLeaves}
 use Rattle.sedona_expr.specs.Error as error
-use Rattle.sedona_expr.specs.declared.statistics.Bbox.{Bbox}
-use Rattle.sedona_expr.specs.declared.statistics.Total.{Total}
-use Rattle.sedona_expr.specs.declared.statistics.Extent.{Extent}
 use Rattle.sedona_expr.specs.declared.statistics.GeoStatistics.{GeoStatistics}
-use Rattle.sedona_expr.specs.declared.statistics.Folded.{Folded}
-use Rattle.sedona_expr.specs.declared.statistics.Merged.{Merged}
+use Rattle.sedona_expr.specs.Statistics.{Folded}
+use Rattle.sedona_expr.specs.Statistics.{Merged}
 use Rattle.sedona_expr.proofs.Searches.{neither}
 use Rattle.sedona_expr.proofs.Folds.{overflow, merge_all, Fits, fits_of_fold, fold_of_fits, fold_number, fold_first, three_not_zero}
+use Rattle.sedona_geometry.specs.declared.bounding_box.BoundingBox.{BoundingBox}
 
 -- ---- boxes
-no_less_refl : (b : Bbox) → NoLess b b
-no_less_refl Bbox.Missing = tt
-no_less_refl (Bbox.Known a) = boxes.no_less_refl a
+no_less_refl : (b : Option BoundingBox) → NoLess b b
+no_less_refl None = tt
+no_less_refl (Some a) = boxes.no_less_refl a
 
-plus_no_less : (b : Bbox) → NoLess (plus_zero_where_known b) b
-plus_no_less Bbox.Missing = tt
-plus_no_less (Bbox.Known a) = boxes.plus_no_less a
+plus_no_less : (b : Option BoundingBox) → NoLess (plus_zero_where_known b) b
+plus_no_less None = tt
+plus_no_less (Some a) = boxes.plus_no_less a
 
-plus_doubles : (b : Bbox) → DoublesWhereKnown b → DoublesWhereKnown (plus_zero_where_known b)
-plus_doubles Bbox.Missing D = tt
-plus_doubles (Bbox.Known a) D = boxes.plus_doubles D
+plus_doubles : (b : Option BoundingBox) → DoublesWhereKnown b → DoublesWhereKnown (plus_zero_where_known b)
+plus_doubles None D = tt
+plus_doubles (Some a) D = boxes.plus_doubles D
 
-no_less_trans : (c b a : Bbox) → NoLess c b → NoLess b a → NoLess c a
-no_less_trans c b Bbox.Missing p q = tt
-no_less_trans c Bbox.Missing (Bbox.Known a) p q = absurd q
-no_less_trans Bbox.Missing (Bbox.Known b) (Bbox.Known a) p q = absurd p
-no_less_trans (Bbox.Known c) (Bbox.Known b) (Bbox.Known a) p q = boxes.no_less_trans p q
+no_less_trans : (c b a : Option BoundingBox) → NoLess c b → NoLess b a → NoLess c a
+no_less_trans c b None p q = tt
+no_less_trans c None (Some a) p q = absurd q
+no_less_trans None (Some b) (Some a) p q = absurd p
+no_less_trans (Some c) (Some b) (Some a) p q = boxes.no_less_trans p q
 
-merge_no_less_left : (a b : Bbox) → DoublesWhereKnown a → DoublesWhereKnown b → NoLess (merge_bboxes a b) a
+merge_no_less_left : (a b : Option BoundingBox) → DoublesWhereKnown a → DoublesWhereKnown b → NoLess (merge_bboxes a b) a
 unfolding merge_bboxes
-merge_no_less_left Bbox.Missing b D E = tt
-merge_no_less_left (Bbox.Known a) Bbox.Missing D E = boxes.plus_no_less a
-merge_no_less_left (Bbox.Known a) (Bbox.Known b) D E = boxes.merge_no_less_left D E
+merge_no_less_left None b D E = tt
+merge_no_less_left (Some a) None D E = boxes.plus_no_less a
+merge_no_less_left (Some a) (Some b) D E = boxes.merge_no_less_left D E
 
-merge_no_less_right : (a b : Bbox) → DoublesWhereKnown a → DoublesWhereKnown b → NoLess (merge_bboxes a b) b
+merge_no_less_right : (a b : Option BoundingBox) → DoublesWhereKnown a → DoublesWhereKnown b → NoLess (merge_bboxes a b) b
 unfolding merge_bboxes
-merge_no_less_right Bbox.Missing b D E = plus_no_less b
-merge_no_less_right (Bbox.Known a) Bbox.Missing D E = tt
-merge_no_less_right (Bbox.Known a) (Bbox.Known b) D E = boxes.merge_no_less_right D E
+merge_no_less_right None b D E = plus_no_less b
+merge_no_less_right (Some a) None D E = tt
+merge_no_less_right (Some a) (Some b) D E = boxes.merge_no_less_right D E
 
-pub merge_doubles : (a b : Bbox) → DoublesWhereKnown a → DoublesWhereKnown b → DoublesWhereKnown (merge_bboxes a b)
+pub merge_doubles : (a b : Option BoundingBox) → DoublesWhereKnown a → DoublesWhereKnown b → DoublesWhereKnown (merge_bboxes a b)
 unfolding merge_bboxes
-merge_doubles Bbox.Missing b D E = plus_doubles b E
-merge_doubles (Bbox.Known a) Bbox.Missing D E = boxes.plus_doubles D
-merge_doubles (Bbox.Known a) (Bbox.Known b) D E = boxes.merge_doubles D E
+merge_doubles None b D E = plus_doubles b E
+merge_doubles (Some a) None D E = boxes.plus_doubles D
+merge_doubles (Some a) (Some b) D E = boxes.merge_doubles D E
 
 -- of the first record and of each that is merged in
 merged_no_less : (a : GeoStatistics) (rs : List GeoStatistics) → DoublesWhereKnown a.bbox → All (λ r. DoublesWhereKnown r.bbox) rs
@@ -65,8 +64,8 @@ unfolding merge_parts
 merged_no_less a [] D E = (no_less_refl a.bbox, tt)
 merged_no_less a (r ∷ rs) D E =
     let k = merged_no_less (merge_parts a r) rs (merge_doubles a.bbox r.bbox D E.0) E.1 in
-    let m : Bbox = merge_bboxes a.bbox r.bbox in
-    let c : Bbox = (merge_all (merge_parts a r) rs).bbox in (
+    let m : (Option BoundingBox) = merge_bboxes a.bbox r.bbox in
+    let c : (Option BoundingBox) = (merge_all (merge_parts a r) rs).bbox in (
       no_less_trans c m a.bbox k.0 (merge_no_less_left a.bbox r.bbox D E.0),
       (no_less_trans c m r.bbox k.0 (merge_no_less_right a.bbox r.bbox D E.0), k.1),
     )
@@ -135,27 +134,27 @@ overflows_not : (a b : GeoStatistics) → SumsStay a b → overflow a b ≡ fals
 unfolding totals_overflow counts_overflow
 overflows_not a b h = rw (h geometries, h size_bytes, h points, h puntal, h lineal, h polygonal, h collection)
 
-add_is_plus : (t u : Total) → sum_is_outside t u ≡ false → add_totals t u ≡ plus t u
+add_is_plus : (t u : Option ℤ) → sum_is_outside t u ≡ false → add_totals t u ≡ plus t u
 unfolding sum_is_outside add_totals
-add_is_plus Total.Missing u e = refl
-add_is_plus (Total.Known m) Total.Missing e = refl
-add_is_plus (Total.Known m) (Total.Known n) e = rw e
+add_is_plus None u e = refl
+add_is_plus (Some m) None e = refl
+add_is_plus (Some m) (Some n) e = rw e
 
-plus_zero_lem : (t : Total) → plus t (Total.Known (pos 0)) ≡ t
-plus_zero_lem Total.Missing = refl
-plus_zero_lem (Total.Known m) = ap Total.Known (+ℤ_idr m)
+plus_zero_lem : (t : Option ℤ) → plus t (Some (pos 0)) ≡ t
+plus_zero_lem None = refl
+plus_zero_lem (Some m) = ap Some (+ℤ_idr m)
 
-plus_assoc : (t u v : Total) → plus (plus t u) v ≡ plus t (plus u v)
-plus_assoc Total.Missing u v = refl
-plus_assoc (Total.Known m) Total.Missing v = refl
-plus_assoc (Total.Known m) (Total.Known n) Total.Missing = refl
-plus_assoc (Total.Known m) (Total.Known n) (Total.Known o) = ap Total.Known (+ℤ_assoc m n o)
+plus_assoc : (t u v : Option ℤ) → plus (plus t u) v ≡ plus t (plus u v)
+plus_assoc None u v = refl
+plus_assoc (Some m) None v = refl
+plus_assoc (Some m) (Some n) None = refl
+plus_assoc (Some m) (Some n) (Some o) = ap Some (+ℤ_assoc m n o)
 
 merged_total : (w : Which) (a : GeoStatistics) (rs : List GeoStatistics) → Fits a rs → total w (merge_all a rs) ≡ plus (total w a) (sum (map (total w) rs))
 merged_total w a [] h = sym (plus_zero_lem (total w a))
 merged_total w a (r ∷ rs) h =
     merged_total w (merge_parts a r) rs h.1
-    ∙ ap (λ (t : Total). plus t (sum (map (total w) rs))) (total_merged w a r ∙ add_is_plus (total w a) (total w r) (sums_stay a r h.0 w))
+    ∙ ap (λ (t : Option ℤ). plus t (sum (map (total w) rs))) (total_merged w a r ∙ add_is_plus (total w a) (total w r) (sums_stay a r h.0 w))
     ∙ plus_assoc (total w a) (total w r) (sum (map (total w) rs))
 
 -- Merged totals are sums: a fold's total is known exactly where every record's is, and is then their sum over the whole numbers.
@@ -164,15 +163,15 @@ totals_are_sums w r rs e =
     let f = fits_of_fold (plus_zero r) rs (rw (fold_first r rs) at e) in
     ap (λ (g : Folded). total w g.rec) (fold_first r rs ∙ fold_of_fits (plus_zero r) rs f)
     ∙ merged_total w (plus_zero r) rs f
-    ∙ ap (λ (t : Total). plus t (sum (map (total w) rs))) (total_plus w r)
+    ∙ ap (λ (t : Option ℤ). plus t (sum (map (total w) rs))) (total_plus w r)
 
 -- a sum is known exactly where each total is
-pub sum_missing : (ts us : List Total) → sum (ts ++ (Total.Missing ∷ us)) ≡ Total.Missing
+pub sum_missing : (ts us : List (Option ℤ)) → sum (ts ++ (None ∷ us)) ≡ None
 sum_missing [] us = refl
-sum_missing (Total.Missing ∷ ts) us = refl
-sum_missing (Total.Known m ∷ ts) us = rw (sum_missing ts us)
+sum_missing (None ∷ ts) us = refl
+sum_missing (Some m ∷ ts) us = rw (sum_missing ts us)
 
-pub sum_known : (zs : List ℤ) → sum (map Total.Known zs) ≡ Total.Known (whole_sum zs)
+pub sum_known : (zs : List ℤ) → sum (map Some zs) ≡ Some (whole_sum zs)
 sum_known [] = refl
 sum_known (z ∷ zs) = rw (sum_known zs)
 
@@ -188,14 +187,14 @@ extent_plus height a = refl
 
 merged_extent : (s : Side) (a : GeoStatistics) (rs : List GeoStatistics) → extent s (merge_all a rs) ≡ add_all (extent s a) (map (extent s) rs)
 merged_extent s a [] = refl
-merged_extent s a (r ∷ rs) = merged_extent s (merge_parts a r) rs ∙ ap (λ (e : Extent). add_all e (map (extent s) rs)) (extent_merged s a r)
+merged_extent s a (r ∷ rs) = merged_extent s (merge_parts a r) rs ∙ ap (λ (e : Option Float). add_all e (map (extent s) rs)) (extent_merged s a r)
 
 pub extents_are_sums : (s : Side) (r : GeoStatistics) (rs : List GeoStatistics) → (fold (r ∷ rs)).number ≡ 0 → extent s (fold (r ∷ rs)).rec ≡ add_all (extent s r) (map (extent s) rs)
 extents_are_sums s r rs e =
     let f = fits_of_fold (plus_zero r) rs (rw (fold_first r rs) at e) in
     ap (λ (g : Folded). extent s g.rec) (fold_first r rs ∙ fold_of_fits (plus_zero r) rs f)
     ∙ merged_extent s (plus_zero r) rs
-    ∙ ap (λ (t : Extent). add_all t (map (extent s) rs)) (extent_plus s r)
+    ∙ ap (λ (t : Option Float). add_all t (map (extent s) rs)) (extent_plus s r)
 
 -- ---- refusals
 fits_of_prefixes : (a : GeoStatistics) (rs : List GeoStatistics) → ((w : Which) → PrefixSumsFit (total w a) (map (total w) rs)) → Fits a rs
@@ -203,24 +202,24 @@ fits_of_prefixes a [] h = tt
 fits_of_prefixes a (r ∷ rs) h = (
   overflows_not a r (λ w. (h w).0),
   fits_of_prefixes (merge_parts a r) rs (λ w.
-      subst (λ (t : Total). PrefixSumsFit t (map (total w) rs)) (sym (total_merged w a r ∙ add_is_plus (total w a) (total w r) (h w).0)) (h w).1),
+      subst (λ (t : Option ℤ). PrefixSumsFit t (map (total w) rs)) (sym (total_merged w a r ∙ add_is_plus (total w a) (total w r) (h w).0)) (h w).1),
 )
 
 prefixes_of_fits : (w : Which) (a : GeoStatistics) (rs : List GeoStatistics) → Fits a rs → PrefixSumsFit (total w a) (map (total w) rs)
 prefixes_of_fits w a [] h = tt
 prefixes_of_fits w a (r ∷ rs) h =
     let l = sums_stay a r h.0 w in
-    (l, subst (λ (t : Total). PrefixSumsFit t (map (total w) rs)) (total_merged w a r ∙ add_is_plus (total w a) (total w r) l) (prefixes_of_fits w (merge_parts a r) rs h.1))
+    (l, subst (λ (t : Option ℤ). PrefixSumsFit t (map (total w) rs)) (total_merged w a r ∙ add_is_plus (total w a) (total w r) l) (prefixes_of_fits w (merge_parts a r) rs h.1))
 
 -- Totals that fit are never refused; and a fold is refused, with 3, exactly where some total has a prefix sum that leaves the range.
 pub totals_that_fit : (r : GeoStatistics) (rs : List GeoStatistics) → ((w : Which) → PrefixSumsFit (total w r) (map (total w) rs)) → (fold (r ∷ rs)).number ≡ 0
 totals_that_fit r rs h =
-    let k : (w : Which) → PrefixSumsFit (total w (plus_zero r)) (map (total w) rs) = λ w. subst (λ (t : Total). PrefixSumsFit t (map (total w) rs)) (sym (total_plus w r)) (h w) in
+    let k : (w : Which) → PrefixSumsFit (total w (plus_zero r)) (map (total w) rs) = λ w. subst (λ (t : Option ℤ). PrefixSumsFit t (map (total w) rs)) (sym (total_plus w r)) (h w) in
     ap (λ (g : Folded). g.number) (fold_first r rs ∙ fold_of_fits (plus_zero r) rs (fits_of_prefixes (plus_zero r) rs k))
 
 pub not_refused_fit : (r : GeoStatistics) (rs : List GeoStatistics) → (fold (r ∷ rs)).number ≡ 0 → (w : Which) → PrefixSumsFit (total w r) (map (total w) rs)
 not_refused_fit r rs e w =
-    subst (λ (t : Total). PrefixSumsFit t (map (total w) rs)) (total_plus w r)
+    subst (λ (t : Option ℤ). PrefixSumsFit t (map (total w) rs)) (total_plus w r)
     (prefixes_of_fits w (plus_zero r) rs (fits_of_fold (plus_zero r) rs (rw (fold_first r rs) at e)))
 
 pub refused_with_three : (rs : List GeoStatistics) → ((fold rs).number ≡ 0) ⊎ ((fold rs).number ≡ error.overflow)
@@ -272,8 +271,8 @@ unfolding merge_parts
 no_box_shrinks_in_trees (leaf r) D e = no_less_refl r.bbox
 no_box_shrinks_in_trees (node s t) D e =
     let m = merges (merge_tree s) (merge_tree t) e in
-    let a : Bbox = (merge_tree s).rec.bbox in
-    let b : Bbox = (merge_tree t).rec.bbox in
+    let a : (Option BoundingBox) = (merge_tree s).rec.bbox in
+    let b : (Option BoundingBox) = (merge_tree t).rec.bbox in
     let A = tree_doubles s D.0 m.0 in
     let B = tree_doubles t D.1 m.1 in
     subst (λ (g : GeoStatistics). AllLeaves (λ r. NoLess g.bbox r.bbox) (node s t)) (sym m.2) (

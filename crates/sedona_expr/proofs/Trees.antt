@@ -6,13 +6,13 @@ use Prim.Native.Nat.{ℕ, zero, suc, ◌≤◌, ◌<◌}
 use native.Mathlib.Omega.{arith}
 use lib.Dec.{eqb, ltb}
 use borrow.Author.Tests.{eqb-true, eqb-false, eq-eqb, ne_eqb, lt-ltb, le-ltb, ltb-true}
+use Rattle.std.specs.Prelude.{Option, Some, None}
 use Rattle.sedona_geometry.specs.declared.bounding_box.BoundingBox.{BoundingBox}
 use Rattle.sedona_expr.specs.SpatialFilter.{Column, Filter, intersects, covers, and, or, literal_false, unknown, may_intersect, may_cover, answer, full, box_for}
 use Rattle.sedona_expr.specs.Tables.{Table, word, kind, is_pair, leaf_of, pair_of, are_below, has_children, leaf_at, alone, tree_of, trees_below, tree_at}
 use Rattle.sedona_expr.specs.Within.{children_of}
 use Rattle.sedona_expr.specs.declared.tables.ColumnRecord.{ColumnRecord}
 use Rattle.sedona_expr.specs.declared.tables.Pair.{Pair}
-use Rattle.sedona_expr.specs.declared.tables.Children.{Children}
 
 pub trees_below_lem : (t : Table) (n m : ℕ) → m < n → trees_below t n m ≡ tree_at t m
 unfolding tree_at
@@ -42,12 +42,8 @@ unfolding pair_of
 pair_or k a b e = rw (ne_eqb k 3 e)
 
 -- ---- a node with children, as the search for them tells
-no_children : {p : Pair} → Children.Both p ≡ Children.Neither → ⊥
-no_children e = subst (λ (c : Children). is_both c) e tt
-  where
-    is_both : Children → Type 0
-    is_both Children.Neither = ⊥
-    is_both (Children.Both p) = Unit {0}
+no_children : {p : Pair} → Some p ≡ None → ⊥
+no_children e = cc
 
 pub record HasChildren (ns : List ℕ) (n : ℕ) (p : Pair) : Type 0 where
   pub has : has_children ns n ≡ true
@@ -56,16 +52,16 @@ pub record HasChildren (ns : List ℕ) (n : ℕ) (p : Pair) : Type 0 where
   pub left_below : p.left < n
   pub right_below : p.right < n
 
-pub found_children : (ns : List ℕ) (n : ℕ) (p : Pair) → Children.Both p ≡ children_of ns n → HasChildren ns n p
+pub found_children : (ns : List ℕ) (n : ℕ) (p : Pair) → Some p ≡ children_of ns n → HasChildren ns n p
 unfolding children_of has_children are_below
 found_children ns n p e = go (is_pair (kind ns n)) (ltb (word ns n 1) n) (ltb (word ns n 2) n) refl refl refl e
   where
-    is : Children → Pair
-    is Children.Neither = p
-    is (Children.Both q) = q
+    is : Option Pair → Pair
+    is None = p
+    is (Some q) = q
 
     go : (a b c : Bool) → is_pair (kind ns n) ≡ a → ltb (word ns n 1) n ≡ b → ltb (word ns n 2) n ≡ c
-        → Children.Both p ≡ cond (a && (b && c)) (Children.Both (record { left = word ns n 1; right = word ns n 2 })) Children.Neither → HasChildren ns n p
+        → Some p ≡ cond (a && (b && c)) (Some (record { left = word ns n 1; right = word ns n 2 })) None → HasChildren ns n p
     go true true true q r s e =
         let same = ap is e in
         record {
@@ -79,11 +75,11 @@ found_children ns n p e = go (is_pair (kind ns n)) (ltb (word ns n 1) n) (ltb (w
     go true false c q r s e = absurd (no_children e)
     go false b c q r s e = absurd (no_children e)
 
-found_none : (ns : List ℕ) (n : ℕ) → Children.Neither ≡ children_of ns n → has_children ns n ≡ false
+found_none : (ns : List ℕ) (n : ℕ) → None ≡ children_of ns n → has_children ns n ≡ false
 unfolding children_of
 found_none ns n = go (has_children ns n)
   where
-    go : (a : Bool) → Children.Neither ≡ cond a (Children.Both (record { left = word ns n 1; right = word ns n 2 })) Children.Neither → a ≡ false
+    go : (a : Bool) → ◌≡◌ {A = Option Pair} None (cond a (Some (record { left = word ns n 1; right = word ns n 2 })) None) → a ≡ false
     go true e = absurd (no_children (sym e))
     go false e = refl
 
@@ -97,7 +93,7 @@ module _ {B : Type 0} (say : Filter → B) (t : Table) (n : ℕ) where
   unfolding tree_at tree_of has_children alone
   says_leaf h = rw (leaf_no_pair (kind t.nodes n) h, le-ltb 2 (kind t.nodes n) h)
 
-  pub says_other : 2 < kind t.nodes n → Children.Neither ≡ children_of t.nodes n → say (tree_at t n) ≡ say (cond (eqb (kind t.nodes n) 5) literal_false unknown)
+  pub says_other : 2 < kind t.nodes n → None ≡ children_of t.nodes n → say (tree_at t n) ≡ say (cond (eqb (kind t.nodes n) 5) literal_false unknown)
   unfolding tree_at tree_of alone
   says_other h e = rw (found_none t.nodes n e, lt-ltb 2 (kind t.nodes n) h)
 

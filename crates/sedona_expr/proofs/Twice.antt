@@ -2,7 +2,7 @@
 use mathlib.Core.Path.{◌≡◌, refl, sym, subst, ap, ◌∙◌}
 use mathlib.Core.Bool.{Bool, true, false, ◌&&◌}
 use mathlib.Core.List.{List, [], ◌∷◌}
-use Prim.Native.Nat.{ℕ, zero, suc, ◌+◌, ◌≤◌, ◌<◌}
+use Prim.Native.Nat.{ℕ, zero, suc, ◌+◌, ◌-◌, ◌≤◌, ◌<◌}
 use native.Mathlib.Omega.{arith}
 use lib.Dec.{eqb, ltb}
 use lib.ListN.{length, get_or, set, take, drop, length-drop}
@@ -45,8 +45,14 @@ pub differ_all : (ns : List ℕ) (k : ℕ) → length ns ≤ k → Differ ns k �
 differ_all ns k h d = differ_once ns (λ j l. d j (omega arith))
 
 -- ---- names that ascend: a name at a time, and that all differ
-pub ascends_next : (ns : List ℕ) (i : ℕ) → i + 1 < length ns → ascends (drop i ns) ≡ (ltb (get_or ns i 0) (get_or ns (i + 1) 0) && ascends (drop (i + 1) ns))
-ascends_next ns i h = rw (rest ns i 0 (omega arith), rest ns (i + 1) 0 h)
+pub ascends_next : (ns : List ℕ) (i : ℕ) → 1 ≤ i → i < length ns → ascends (drop (i - 1) ns) ≡ (ltb (get_or ns (i - 1) 0) (get_or ns i 0) && ascends (drop (i + 1 - 1) ns))
+ascends_next ns i h l =
+    let e : i - 1 + 1 ≡ i = omega arith in
+    let f : i + 1 - 1 ≡ i = omega arith in
+    rw f (rw e at (step (i - 1) (omega arith)))
+  where
+    step : (k : ℕ) → k + 1 < length ns → ascends (drop k ns) ≡ (ltb (get_or ns k 0) (get_or ns (k + 1) 0) && ascends (drop (k + 1) ns))
+    step k h = rw (rest ns k 0 (omega arith), rest ns (k + 1) 0 h)
 
 one_ascends : (ns : List ℕ) → length ns ≤ 1 → ascends ns ≡ true
 one_ascends [] h = refl

@@ -2,6 +2,7 @@
 -- of column 1 and of (Or of a HasZ of column 0, which holds, and one of column 1, which does not); a row that is a point in both, and in a third
 -- column, for which no record is lent; for column 0 three records, one of them without a box and types and one wrapped; and for column 1 two
 -- records without types. And for the first half alone a Covers whose literal wraps, of a row that wraps, beside a record with NaN. Assumes nothing.
+use Rattle.std.specs.Prelude.{Option, Some, None}
 use mathlib.Core.Path.{◌≡◌, refl, sym}
 use mathlib.Core.Bool.{true}
 use mathlib.Core.Logic.{inl, inr}
@@ -15,7 +16,6 @@ use Rattle.sedona_geometry.specs.Interval as interval
 use Rattle.sedona_geometry.specs.WraparoundInterval as wraparound
 use Rattle.sedona_geometry.specs.BoundingBox as bounding_box
 use Rattle.sedona_geometry.specs.Types.{from_bits}
-use Rattle.sedona_geometry.specs.declared.bounding_box.Dimension.{Dimension}
 use Rattle.sedona_geometry.specs.declared.bounding_box.BoundingBox.{BoundingBox}
 use Rattle.sedona_geometry.proofs.Booleans.{fails}
 use Rattle.sedona_expr.specs.Statistics as statistics
@@ -25,13 +25,12 @@ use Rattle.sedona_expr.specs.Tables as tables
 use Rattle.sedona_expr.specs.Refusals as refusals
 use Rattle.sedona_expr.specs.Tables.{Records, Table, Lookup, by_position, by_name}
 use Rattle.sedona_expr.specs.Demand.{Row, WhereBox, Leaf, of_box, a_has_z, Beside, Folds, Wanted, is_point, Numbers, Pointed, MayMatch, Reaches}
-use Rattle.sedona_expr.specs.declared.statistics.Bbox.{Bbox}
-use Rattle.sedona_expr.specs.declared.statistics.GeometryTypes.{GeometryTypes}
 use Rattle.sedona_expr.specs.declared.statistics.GeoStatistics.{GeoStatistics}
 use Rattle.sedona_expr.proofs.Instances.{reading}
 use Rattle.sedona_expr.proofs.MayMatch.{fold_has_z}
 use Rattle.sedona_expr.proofs.Searches.{once_differ}
 use Rattle.sedona_expr.proofs.Demand3.{demand-3}
+use Rattle.sedona_geometry.specs.declared.types.GeometryTypeAndDimensionsSet.{GeometryTypeAndDimensionsSet}
 
 abbrev plus : ℕ → Float
 plus n = of_int binary64 (pos n)
@@ -45,11 +44,11 @@ flat a b c d = bounding_box.xy (wraparound.new a b) (interval.new c d)
 
 -- A box of x, y and z.
 abbrev deep : Float → Float → Float → Float → Float → Float → BoundingBox
-deep a b c d e f = bounding_box.xyzm (wraparound.new a b) (interval.new c d) (Dimension.Known (interval.new e f)) Dimension.Missing
+deep a b c d e f = bounding_box.xyzm (wraparound.new a b) (interval.new c d) (Some (interval.new e f)) None
 
 -- A known set of one type.
-abbrev only : ℕ → GeometryTypes
-only n = GeometryTypes.Known (from_bits (2 ^ n))
+abbrev only : ℕ → Option GeometryTypeAndDimensionsSet
+only n = Some (from_bits (2 ^ n))
 
 -- ---- what is lent
 
@@ -102,18 +101,18 @@ names = 7 ∷ 9 ∷ 4 ∷ []
 
 -- A point with z, and a point without.
 abbrev row : Row
-row zero = record { bbox = Bbox.Known (deep (plus 2) (plus 2) (plus 3) (plus 3) (plus 2) (plus 2)); bit = 9 }
-row (suc n) = record { bbox = Bbox.Known (flat (plus 4) (plus 4) (plus 5) (plus 5)); bit = 1 }
+row zero = record { bbox = Some (deep (plus 2) (plus 2) (plus 3) (plus 3) (plus 2) (plus 2)); bit = 9 }
+row (suc n) = record { bbox = Some (flat (plus 4) (plus 4) (plus 5) (plus 5)); bit = 1 }
 
 abbrev lists : ℕ → List GeoStatistics
 lists zero =
     reading (row 0).bbox (only 9) (pos 1)
-    ∷ reading Bbox.Missing GeometryTypes.Missing (pos 2)
-    ∷ reading (Bbox.Known (deep (plus 170) (neg (plus 170)) (plus 1) (plus 9) (plus 0) (plus 3))) (only 1) (pos 3)
+    ∷ reading None None (pos 2)
+    ∷ reading (Some (deep (plus 170) (neg (plus 170)) (plus 1) (plus 9) (plus 0) (plus 3))) (only 1) (pos 3)
     ∷ []
 lists (suc n) =
-    reading (Bbox.Known (flat (plus 3) (plus 6) (plus 6) (plus 8))) GeometryTypes.Missing (pos 4)
-    ∷ reading (row 1).bbox GeometryTypes.Missing (pos 5)
+    reading (Some (flat (plus 3) (plus 6) (plus 6) (plus 8))) None (pos 4)
+    ∷ reading (row 1).bbox None (pos 5)
     ∷ []
 
 -- ---- each column's list, for any of its leaves
@@ -130,7 +129,7 @@ folds-0 f h = record {
   folded = refl;
 }
 
-folds-1 : (f : Leaf) → Beside f (row 1) GeometryTypes.Missing → Folds f (lists 1) (row 1) (tables.record_at r 1)
+folds-1 : (f : Leaf) → Beside f (row 1) None → Folds f (lists 1) (row 1) (tables.record_at r 1)
 unfolding fits add sub div neg lt le eq is_nan round of_int min_num max_num abs interval.intersects_interval interval.is_empty interval.merge_interval wraparound.is_wraparound wraparound.split wraparound.mid wraparound.from_pieces wraparound.merge_wrapped wraparound.nearer_left wraparound.merge_plain wraparound.merge_non_empty wraparound.merge_interval bounding_box.join_known bounding_box.merge_box statistics.is_outside statistics.sum_is_outside statistics.totals_overflow statistics.counts_overflow statistics.merge_bboxes statistics.merge_types statistics.merge_parts statistics.merge_value statistics.add_totals statistics.step statistics.fold_from tables.box_with tables.box_at tables.types_at
 folds-1 f h = record {
   doubles = (
@@ -222,12 +221,12 @@ abbrev wrapped_fold : Records
 wrapped_fold = tables.records (ends (plus 170) (neg (plus 170)) (plus 5) (plus 8) (plus 0) (plus 0) []) (1 ∷ []) (0 ∷ []) (0 ∷ [])
 
 abbrev wrapped_row : Row
-wrapped_row n = record { bbox = Bbox.Known (flat (plus 170) (neg (plus 170)) (plus 5) (plus 5)); bit = 1 }
+wrapped_row n = record { bbox = Some (flat (plus 170) (neg (plus 170)) (plus 5) (plus 5)); bit = 1 }
 
 abbrev wrapped_lists : ℕ → List GeoStatistics
 wrapped_lists n =
-    reading (Bbox.Known (flat nan (plus 3) (plus 6) (plus 8))) GeometryTypes.Missing (pos 1)
-    ∷ reading (wrapped_row n).bbox GeometryTypes.Missing (pos 2)
+    reading (Some (flat nan (plus 3) (plus 6) (plus 8))) None (pos 1)
+    ∷ reading (wrapped_row n).bbox None (pos 2)
     ∷ []
 
 wrapped_folds : Folds (of_box (flat (plus 175) (neg (plus 175)) (plus 5) (plus 5))) (wrapped_lists 0) (wrapped_row 0) (tables.record_at wrapped_fold 0)
@@ -251,16 +250,16 @@ pub a_wrapped_literal : MayMatch by_position wrapped_table wrapped_fold
 a_wrapped_literal = (demand-3 by_position wrapped_table wrapped_fold wrapped_row wrapped_lists wrapped_wanted).0
 
 -- ---- a row that lies at −0. Its record comes to the list through a fold of its own, which gives +0
-abbrev signed : Bbox
-signed = Bbox.Known (record { x = record { inner = record { lo = minus_zero; hi = minus_zero } }; y = record { lo = minus_zero; hi = minus_zero }; z = Dimension.Missing; m = Dimension.Missing })
+abbrev signed : Option BoundingBox
+signed = Some (record { x = record { inner = record { lo = minus_zero; hi = minus_zero } }; y = record { lo = minus_zero; hi = minus_zero }; z = None; m = None })
 
 abbrev signed_row : Row
 signed_row n = record { bbox = signed; bit = 1 }
 
 abbrev signed_lists : ℕ → List GeoStatistics
 signed_lists n =
-    (statistics.fold (reading signed GeometryTypes.Missing (pos 1) ∷ [])).rec
-    ∷ reading (Bbox.Known (flat (plus 3) (plus 6) (plus 6) (plus 8))) GeometryTypes.Missing (pos 2)
+    (statistics.fold (reading signed None (pos 1) ∷ [])).rec
+    ∷ reading (Some (flat (plus 3) (plus 6) (plus 6) (plus 8))) None (pos 2)
     ∷ []
 
 abbrev signed_table : Table

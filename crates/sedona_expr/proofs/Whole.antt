@@ -1,17 +1,18 @@
 -- Whole numbers as differences of natural ones, so that sums and tests of them are linear arithmetic; and which sums leave the range of
 -- an i64. Assumes nothing.
-use mathlib.Core.Path.{◌≡◌, refl}
+use mathlib.Core.Path.{◌≡◌, refl, subst}
+use Rattle.std.specs.Prelude.{Option, Some, None, SomeIff}
 use mathlib.Core.Logic.{◌⊎◌, inl, inr, ◌↔◌}
 use mathlib.Core.Bool.{Bool, true, false, not, cond}
 use Prim.Native.Nat.{ℕ, zero, suc, ◌+◌, ◌-◌, ◌^◌, ◌≤◌, ◌<◌}
 use native.Mathlib.Omega.{arith}
-use lib.IntN.{ℤ, pos, negsuc, neg_ℤ, sub_ℕ, ◌+ℤ◌, ◌-ℤ◌}
+use lib.IntN.{ℤ, pos, negsuc, neg_ℤ, sub_ℕ, ◌+ℤ◌}
 use lib.Dec.{T, ltb, ltb→lt, lt→ltb, nltb→le}
 use lib.Signed.{lt_z}
 use mir.Syntax.{w64}
 use mir.Val.{SFits}
 use Rattle.sedona_expr.specs.Statistics.{least, most, is_outside}
-use Rattle.sedona_geometry.proofs.Booleans.{fails, or_left, or_right, or_cases}
+use Rattle.sedona_geometry.proofs.Booleans.{fails, is_false, or_left, or_right, or_cases}
 use Rattle.sedona_geometry.proofs.Order.{ℕ_le_or_lt}
 
 -- z is up z - down z
@@ -91,49 +92,19 @@ not_down z e = ℕ_not_lt (2 ^ 63 + up z) (down z) (λ h. fails e (→outside_do
 not_up : (z : ℤ) → is_outside z ≡ false → up z ≤ 2 ^ 63 - 1 + down z
 not_up z e = ℕ_not_lt (2 ^ 63 - 1 + down z) (up z) (λ h. fails e (→outside_up z h))
 
--- ---- the test that the code makes before it adds
-module _ (a b : ℤ) (A : SFits w64 a) (B : SFits w64 b) where
-  -- b < 0
-  pub least_minus_fits : T (lt_z b (pos 0)) → SFits w64 (least -ℤ b)
-  least_minus_fits n =
-      let h = fits→ b B in
-      let k = (lt↔ b (pos 0)).0 n in
-      let e = add_diff least (neg_ℤ b) in
-      let g = neg_up b in
-      →fits (least -ℤ b) (omega arith) (omega arith)
-
-  pub below_is : T (lt_z b (pos 0)) → lt_z a (least -ℤ b) ≡ is_outside (a +ℤ b)
-  below_is n =
-      let f = fits→ a A in
-      let h = fits→ b B in
-      let k = (lt↔ b (pos 0)).0 n in
-      let e = add_diff least (neg_ℤ b) in
-      let g = neg_up b in
-      let d = add_diff a b in
-      same_test (lt_z a (least -ℤ b)) (is_outside (a +ℤ b))
-      (λ t. →outside_down (a +ℤ b) (omega (arith, (lt↔ a (least -ℤ b)).0 t)))
-      (λ t. elim (outside→ (a +ℤ b) t) [ inl u ↦ (lt↔ a (least -ℤ b)).1 (omega arith) | inr u ↦ absurd (omega arith) ])
-
-  -- b ≥ 0
-  pub most_minus_fits : (T (lt_z b (pos 0)) → ⊥) → SFits w64 (most -ℤ b)
-  most_minus_fits n =
-      let h = fits→ b B in
-      let k = not_below b n in
-      let e = add_diff most (neg_ℤ b) in
-      let g = neg_up b in
-      →fits (most -ℤ b) (omega arith) (omega arith)
-
-  pub above_is : (T (lt_z b (pos 0)) → ⊥) → lt_z (most -ℤ b) a ≡ is_outside (a +ℤ b)
-  above_is n =
-      let f = fits→ a A in
-      let h = fits→ b B in
-      let k = not_below b n in
-      let e = add_diff most (neg_ℤ b) in
-      let g = neg_up b in
-      let d = add_diff a b in
-      same_test (lt_z (most -ℤ b) a) (is_outside (a +ℤ b))
-      (λ t. →outside_up (a +ℤ b) (omega (arith, (lt↔ (most -ℤ b) a).0 t)))
-      (λ t. elim (outside→ (a +ℤ b) t) [ inl u ↦ absurd (omega arith) | inr u ↦ (lt↔ (most -ℤ b) a).1 (omega arith) ])
-
 pub stays_fits : (z : ℤ) → is_outside z ≡ false → SFits w64 z
 stays_fits z e = →fits z (omega (arith, not_up z e)) (omega (arith, not_down z e))
+
+pub fits_stays : (z : ℤ) → SFits w64 z → is_outside z ≡ false
+fits_stays z f = let h = fits→ z f in is_false (is_outside z) (λ t. elim (outside→ z t) [ inl u ↦ absurd (omega arith) | inr u ↦ absurd (omega arith) ])
+
+-- ---- a checked sum is there exactly where it stays
+pub outside_if_none : (z : ℤ) {o : Option ℤ} → SomeIff o (SFits w64 z) z → o ≡ None → is_outside z ≡ true
+outside_if_none z h e = go (is_outside z) refl
+  where
+    go : (t : Bool) → is_outside z ≡ t → is_outside z ≡ true
+    go true p = p
+    go false p = absurd (subst (λ o. SomeIff o (SFits w64 z) z) e h (stays_fits z p))
+
+pub stays_if_some : (z : ℤ) {o : Option ℤ} {x : ℤ} → SomeIff o (SFits w64 z) z → o ≡ Some x → (is_outside z ≡ false) × (x ≡ z)
+stays_if_some z h e = let k = subst (λ o. SomeIff o (SFits w64 z) z) e h in (fits_stays z k.0, k.1)

@@ -13,7 +13,6 @@ use Rattle.sedona_expr.specs.Tables.{Records, records, Table, table, leaf_of, pa
 use Rattle.sedona_expr.specs.Refusals.{lengths_refusal, values_refusal, records_refusal, refusal}
 use Rattle.sedona_expr.specs.Calls.{evaluate}
 use Rattle.sedona_expr.specs.WithoutHasZ.{NoHasZ, types_unknown, TypesPass}
-use Rattle.sedona_expr.specs.declared.spatial_filter.Evaluation.{Evaluation}
 use Rattle.sedona_expr.specs.declared.tables.ColumnRecord.{ColumnRecord}
 
 -- Records that have the same boxes have the same answer.
@@ -36,12 +35,12 @@ unfolding refusal records_refusal lengths_refusal values_refusal
 unknown_refusal l t r p = let n = length r.boxes.flags in rw (p.types, p.known, p.bytes, length-replicate {A = ℕ} n 0, zeros_pass n)
 
 -- Both calls answer a filter without HasZ as where no types are known, numbers included.
-pub evaluate_by_boxes : (l : Lookup) (t : Table) (r : Records) → NoHasZ (root t) → TypesPass r → ◌≡◌ {A = Evaluation} (evaluate l t r) (evaluate l t (types_unknown r.boxes))
+pub evaluate_by_boxes : (l : Lookup) (t : Table) (r : Records) → NoHasZ (root t) → TypesPass r → evaluate l t r ≡ evaluate l t (types_unknown r.boxes)
 evaluate_by_boxes l t r n p = rw (unknown_refusal l t r p, same_boxes (record_of l r) (record_of l (types_unknown r.boxes)) (λ c. refl) (root t) n)
 
 -- So its answer does not depend on the types.
 pub types_unread : (l : Lookup) (t : Table) (r s : Records) → r.boxes ≡ s.boxes → NoHasZ (root t) → TypesPass r → TypesPass s
-    → ◌≡◌ {A = Evaluation} (evaluate l t r) (evaluate l t s)
+    → evaluate l t r ≡ evaluate l t s
 types_unread l t r s e n p q = evaluate_by_boxes l t r n p ∙ ap (λ b. evaluate l t (types_unknown b)) e ∙ sym (evaluate_by_boxes l t s n q)
 
 -- ---- the hypotheses can be met
@@ -52,6 +51,6 @@ zeros = let z = of_int binary64 (pos 0) in z ∷ z ∷ z ∷ z ∷ z ∷ z ∷ z
 abbrev t : Table
 t = table (0 ∷ 0 ∷ 0 ∷ 0 ∷ 6 ∷ 0 ∷ 0 ∷ 0 ∷ 4 ∷ 0 ∷ 1 ∷ 0 ∷ []) zeros (1 ∷ [])
 
-pub of_two : ◌≡◌ {A = Evaluation} (evaluate by_position t (records zeros (1 ∷ []) (0x200 ∷ []) (1 ∷ []))) (evaluate by_position t (records zeros (1 ∷ []) (0 ∷ []) (0 ∷ [])))
+pub of_two : evaluate by_position t (records zeros (1 ∷ []) (0x200 ∷ []) (1 ∷ [])) ≡ evaluate by_position t (records zeros (1 ∷ []) (0 ∷ []) (0 ∷ []))
 unfolding leaf_of pair_of are_below has_children leaf_at alone tree_of tree_at
 of_two = types_unread by_position t _ _ refl (tt, tt) (record { types = refl; known = refl; bytes = refl }) (record { types = refl; known = refl; bytes = refl })

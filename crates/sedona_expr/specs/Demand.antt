@@ -1,7 +1,7 @@
 -- The words of demand 3 (01, "Words of demand 3"), over the definitions that the contracts of the calls cite.
 -- A column is a place: those for which a record is lent come first, in the order of the records. A leaf's column is the place where its call
 -- looks: `place`.
-use Rattle.std.specs.Prelude.{◌⊎◌, ◌≡◌, Bool, true, false, List, [], ◌∷◌, ℕ, ◌≤◌, ◌<◌, T, length, get_or}
+use Rattle.std.specs.Prelude.{◌⊎◌, ◌≡◌, Bool, true, false, List, [], ◌∷◌, ℕ, ◌≤◌, ◌<◌, T, length, get_or, Option, Some, None, Ok}
 use Rattle.std.specs.Float.{binary64}
 use Rattle.std.specs.Float.Ieee.{fits, le, eq}
 use Rattle.sedona_geometry.specs.Lists.{All}
@@ -17,8 +17,6 @@ use Rattle.sedona_expr.specs.SpatialFilter.{Column, Filter, intersects, covers, 
 use Rattle.sedona_expr.specs.Tables.{Records, record_at, Table, root, Lookup, by_position, by_name, place}
 use Rattle.sedona_expr.specs.Refusals.{refusal}
 use Rattle.sedona_expr.specs.Calls.{evaluate, filter_bbox}
-use Rattle.sedona_expr.specs.declared.statistics.Bbox.{Bbox}
-use Rattle.sedona_expr.specs.declared.statistics.GeometryTypes.{GeometryTypes}
 use Rattle.sedona_expr.specs.declared.statistics.GeoStatistics.{GeoStatistics}
 use Rattle.sedona_expr.specs.declared.tables.ColumnRecord.{ColumnRecord}
 use Rattle.sedona_expr.specs.declared.spatial_filter.Evaluation.{Evaluation}
@@ -28,21 +26,21 @@ use Rattle.sedona_expr.specs.declared.spatial_filter.Evaluation.{Evaluation}
 -- "A row gives each named column a box, its own box there" .. "any other column has a box of it or none." Beside the box stands the bit of its type,
 -- 0 to 31. (A number past them is no type's, and a HasZ does not hold of it.)
 pub record Cell : Type 0 where
-  pub bbox : Bbox
+  pub bbox : Option BoundingBox
   pub bit : ℕ
 
 abbrev pub Row : Type 0
 Row = ℕ → Cell
 
 -- What is said of a box, where there is one. ("A column where the row has no box is left out.")
-abbrev pub WhereBox : (BoundingBox → Type 0) → Bbox → Type 0
-WhereBox P Bbox.Missing = Unit {0}
-WhereBox P (Bbox.Known b) = P b
+abbrev pub WhereBox : (BoundingBox → Type 0) → Option BoundingBox → Type 0
+WhereBox P None = Unit {0}
+WhereBox P (Some b) = P b
 
 -- There is a box, and this is so of it.
-abbrev pub HasBox : (BoundingBox → Type 0) → Bbox → Type 0
-HasBox P Bbox.Missing = ⊥
-HasBox P (Bbox.Known b) = P b
+abbrev pub HasBox : (BoundingBox → Type 0) → Option BoundingBox → Type 0
+HasBox P None = ⊥
+HasBox P (Some b) = P b
 
 abbrev pub low_to_high : Interval → Bool
 low_to_high i = le i.lo i.hi
@@ -90,22 +88,22 @@ OfLiteral P a_has_z = Unit {0}
 -- ---- lists of records
 
 -- Some member of the list.
-abbrev pub Some : {A : Type 0} → (A → Type 0) → List A → Type 0
-Some P [] = ⊥
-Some P (x ∷ xs) = P x ⊎ Some P xs
+abbrev pub Any : {A : Type 0} → (A → Type 0) → List A → Type 0
+Any P [] = ⊥
+Any P (x ∷ xs) = P x ⊎ Any P xs
 
 -- The types are known, and this is so of their set.
-abbrev pub HasTypes : (GeometryTypeAndDimensionsSet → Type 0) → GeometryTypes → Type 0
-HasTypes P GeometryTypes.Missing = ⊥
-HasTypes P (GeometryTypes.Known s) = P s
+abbrev pub HasTypes : (GeometryTypeAndDimensionsSet → Type 0) → Option GeometryTypeAndDimensionsSet → Type 0
+HasTypes P None = ⊥
+HasTypes P (Some s) = P s
 
 -- "a known type set with its type's bit"
-abbrev pub HasBit : ℕ → GeometryTypes → Type 0
+abbrev pub HasBit : ℕ → Option GeometryTypeAndDimensionsSet → Type 0
 HasBit k = HasTypes (λ s. types.has s k ≡ true)
 
 -- What a record of the row has beside the row's box: "in a column where a HasZ leaf holds of the row, demand 3 asks this record of the list and
 -- not the box alone".
-abbrev pub Beside : Leaf → Cell → GeometryTypes → Type 0
+abbrev pub Beside : Leaf → Cell → Option GeometryTypeAndDimensionsSet → Type 0
 Beside (of_box k) own t = Unit {0}
 Beside a_has_z own t = HoldsZ own → HasBit own.bit t
 
@@ -119,7 +117,7 @@ pub record Folds (f : Leaf) (rs : List GeoStatistics) (own : Cell) (lent : Colum
   pub doubles : All (λ s. statistics.DoublesWhereKnown s.bbox) rs
   -- The row's own box is among the records; it has one. The sign of a zero does not matter: a box that a call has handed on has +0.
   pub has : HasBox (λ b. Unit {0}) own.bbox
-  pub among : Some (λ s. (statistics.plus_zero_where_known s.bbox ≡ statistics.plus_zero_where_known own.bbox) × Beside f own s.geometry_types) rs
+  pub among : Any (λ s. (statistics.plus_zero_where_known s.bbox ≡ statistics.plus_zero_where_known own.bbox) × Beside f own s.geometry_types) rs
   -- "Totals fit where no step meets number 3"
   pub fit : (fold rs).number ≡ 0
   -- "the record of each named column being its fold", its box and its types
@@ -169,7 +167,7 @@ pub record Pointed (l : Lookup) (t : Table) (r : Records) (row : Row) (names : L
 
 -- then the filter, held against these folds, may match
 abbrev pub MayMatch : Lookup → Table → Records → Type 0
-MayMatch l t r = ◌≡◌ {A = Evaluation} (evaluate l t r) Evaluation.MayMatch
+MayMatch l t r = evaluate l t r ≡ Ok Evaluation.MayMatch
 
 -- then `contains` is true of each column's filter box and the row's box there
 abbrev pub Reaches : Table → Row → List ℕ → Type 0

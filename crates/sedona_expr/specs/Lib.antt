@@ -5,6 +5,7 @@ pub mod Marked
 pub mod Names
 pub mod Refusals
 pub mod SpatialFilter
+pub mod Spelled
 pub mod Statistics
 pub mod Tables
 pub mod Within

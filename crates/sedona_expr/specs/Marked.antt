@@ -1,12 +1,12 @@
 -- The marked readings P1 to P10 of 01, as one table.
-use Rattle.std.specs.Prelude.{◌≡◌, Bool, true, false, List, [], ◌∷◌, ℕ, pos, Float}
+use Rattle.std.specs.Prelude.{◌≡◌, Bool, true, false, List, [], ◌∷◌, ℕ, pos, Float, Result, Ok}
 use Rattle.std.specs.Float.{binary64}
 use Rattle.std.specs.Float.Ieee.{neg, of_int, of_bits}
 use Rattle.sedona_geometry.specs.Interval as interval
 use Rattle.sedona_geometry.specs.WraparoundInterval as wraparound
 use Rattle.sedona_geometry.specs.declared.interval.Interval.{Interval}
 use Rattle.sedona_geometry.specs.declared.interval.WraparoundInterval.{WraparoundInterval}
-use Rattle.sedona_geometry.specs.declared.interval.Intersection.{Intersection}
+use Rattle.sedona_geometry.specs.declared.error.Refusal.{Refusal}
 use Rattle.sedona_expr.specs.Tables.{Records, Table, records, table, by_position}
 use Rattle.sedona_expr.specs.Calls.{evaluate, filter_bbox}
 use Rattle.sedona_expr.specs.declared.spatial_filter.Evaluation.{Evaluation}
@@ -15,7 +15,7 @@ use Rattle.sedona_expr.specs.declared.spatial_filter.Evaluation.{Evaluation}
 pub data Reading : Type 0 where
   merge : WraparoundInterval → WraparoundInterval → WraparoundInterval → Reading
   contain : WraparoundInterval → WraparoundInterval → Bool → Reading
-  intersect : WraparoundInterval → WraparoundInterval → Intersection → Reading
+  intersect : WraparoundInterval → WraparoundInterval → Result WraparoundInterval Refusal → Reading
   accept : WraparoundInterval → Float → Bool → Reading
   expand : WraparoundInterval → Float → WraparoundInterval → Reading
   plain_intersect : Interval → Interval → Bool → Reading
@@ -31,7 +31,7 @@ Holds (accept x v b) = wraparound.intersects_value x v ≡ b
 Holds (expand x d y) = wraparound.expand_by x d ≡ y
 Holds (plain_intersect i j b) = interval.intersects_interval i j ≡ b
 Holds (may_match_in_no_x t r) =
-    (◌≡◌ {A = Evaluation} (evaluate by_position t r) Evaluation.MayMatch) × ((filter_bbox t 0).number ≡ 0) × (wraparound.is_empty (filter_bbox t 0).bounds.x ≡ true)
+    (evaluate by_position t r ≡ Ok Evaluation.MayMatch) × ((filter_bbox t 0).number ≡ 0) × (wraparound.is_empty (filter_bbox t 0).bounds.x ≡ true)
 Holds (empty_accepts_nothing x) = (wraparound.is_empty x ≡ true) × ((v : Float) → wraparound.Accepts x v → ⊥)
 
 abbrev pub AllHold : List Reading → Type 0
@@ -67,7 +67,7 @@ marked =
     ∷ contain (x (plus 170) (minus 170)) (x (minus 178) (minus 175)) true
     ∷ contain (x (plus 170) (minus 170)) (x (plus 175) (plus 178)) true
     -- P5 (20, 10) intersected with (10, 0), though both accept 10
-    ∷ intersect (x (plus 20) (plus 10)) (x (plus 10) (plus 0)) (Intersection.Single (x (plus 20) (plus 0)))
+    ∷ intersect (x (plus 20) (plus 10)) (x (plus 10) (plus 0)) (Ok (x (plus 20) (plus 0)))
     ∷ accept (x (plus 20) (plus 10)) (plus 10) true
     ∷ accept (x (plus 10) (plus 0)) (plus 10) true
     ∷ accept (x (plus 20) (plus 0)) (plus 10) false
@@ -79,7 +79,7 @@ marked =
     ∷ expand (x (plus 20) (plus 10)) (plus 4) (x (plus 16) (plus 14))
     ∷ expand (x (plus 20) (plus 10)) (plus 5) wraparound.full
     -- P9 (0, 10) intersected with (20, 5)
-    ∷ intersect (x (plus 0) (plus 10)) (x (plus 20) (plus 5)) (Intersection.Single (x (plus 0) (plus 5)))
+    ∷ intersect (x (plus 0) (plus 10)) (x (plus 20) (plus 5)) (Ok (x (plus 0) (plus 5)))
     -- P10 And of Intersects x (1, 2) and x (5, 6), both y (0, 1), against record x (0, 10), y (0, 1): may match, yet the filter box has empty x
     ∷ may_match_in_no_x (table (0 ∷ 0 ∷ 0 ∷ 0 ∷ 0 ∷ 0 ∷ 0 ∷ 1 ∷ 3 ∷ 0 ∷ 1 ∷ 0 ∷ []) (ends (plus 1) (plus 2) (ends (plus 5) (plus 6) [])) (1 ∷ 1 ∷ []))
     (records (ends (plus 0) (plus 10) []) (1 ∷ []) (0 ∷ []) (0 ∷ []))

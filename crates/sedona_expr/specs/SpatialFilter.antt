@@ -1,16 +1,14 @@
 -- `SpatialFilter` of spatial_filter.rs: the filter as a tree, what it answers, and its box.
-use Rattle.std.specs.Prelude.{Bool, true, false, ◌&&◌, ◌||◌, cond, ℕ, zero, suc, eqb, ltb}
+use Rattle.std.specs.Prelude.{Bool, true, false, ◌&&◌, ◌||◌, cond, ℕ, zero, suc, eqb, ltb, Option, Some, None}
 use Rattle.sedona_geometry.specs.Interval as interval
 use Rattle.sedona_geometry.specs.WraparoundInterval as wraparound
 use Rattle.sedona_geometry.specs.BoundingBox as bounding_box
 use Rattle.sedona_geometry.specs.Types as types
-use Rattle.sedona_geometry.specs.declared.bounding_box.Dimension.{Dimension}
 use Rattle.sedona_geometry.specs.declared.bounding_box.BoundingBox.{BoundingBox}
-use Rattle.sedona_geometry.specs.declared.bounding_box.NumberedBox.{NumberedBox}
+use Rattle.sedona_geometry.specs.BoundingBox.{NumberedBox}
 use Rattle.sedona_geometry.specs.declared.types.GeometryTypeAndDimensionsSet.{GeometryTypeAndDimensionsSet}
-use Rattle.sedona_expr.specs.declared.statistics.Bbox.{Bbox}
-use Rattle.sedona_expr.specs.declared.statistics.GeometryTypes.{GeometryTypes}
 use Rattle.sedona_expr.specs.declared.tables.ColumnRecord.{ColumnRecord}
+use Rattle.sedona_geometry.specs.declared.interval.Interval.{Interval}
 
 -- A column as a leaf names it: by an index and by the number of a name.
 pub record Column : Type 0 where
@@ -24,14 +22,14 @@ pub data Filter : Type 0 where
   literal_false unknown : Filter
 
 -- The record's box intersects the literal; true where it has none.
-unfoldable pub may_intersect : Bbox → BoundingBox → Bool
-may_intersect Bbox.Missing k = true
-may_intersect (Bbox.Known b) k = bounding_box.intersects b k
+unfoldable pub may_intersect : Option BoundingBox → BoundingBox → Bool
+may_intersect None k = true
+may_intersect (Some b) k = bounding_box.intersects b k
 
 -- The record's box contains the literal; true where it has none.
-unfoldable pub may_cover : Bbox → BoundingBox → Bool
-may_cover Bbox.Missing k = true
-may_cover (Bbox.Known b) k = bounding_box.contains b k
+unfoldable pub may_cover : Option BoundingBox → BoundingBox → Bool
+may_cover None k = true
+may_cover (Some b) k = bounding_box.contains b k
 
 -- "8 to 15 or 24 to 31": the bits of the types with z alone, and with z and m.
 unfoldable pub is_z : ℕ → Bool
@@ -47,19 +45,19 @@ unfoldable pub has_z_type : GeometryTypeAndDimensionsSet → Bool
 has_z_type s = any_below (λ k. is_z k && types.has s k) 32
 
 -- "with types known, true exactly if" that is so; "else true".
-unfoldable pub may_be_z : GeometryTypes → Bool
-may_be_z GeometryTypes.Missing = true
-may_be_z (GeometryTypes.Known s) = has_z_type s
+unfoldable pub may_be_z : Option GeometryTypeAndDimensionsSet → Bool
+may_be_z None = true
+may_be_z (Some s) = has_z_type s
 
 -- A z is "known and empty".
-unfoldable pub is_known_empty : Dimension → Bool
-is_known_empty Dimension.Missing = false
-is_known_empty (Dimension.Known i) = interval.is_empty i
+unfoldable pub is_known_empty : Option Interval → Bool
+is_known_empty None = false
+is_known_empty (Some i) = interval.is_empty i
 
 -- The record's z is. (It has none where it has no box.)
-unfoldable pub has_empty_z : Bbox → Bool
-has_empty_z Bbox.Missing = false
-has_empty_z (Bbox.Known b) = is_known_empty b.z
+unfoldable pub has_empty_z : Option BoundingBox → Bool
+has_empty_z None = false
+has_empty_z (Some b) = is_known_empty b.z
 
 -- "false where the record's z is known and empty; else" as the types say.
 unfoldable pub may_have_z : ColumnRecord → Bool

@@ -1,5 +1,5 @@
 -- `GeoStatistics` of statistics.rs, method by method.
-use Rattle.std.specs.Prelude.{◌≡◌, Bool, true, false, ◌||◌, cond, List, [], ◌∷◌, ℕ, ◌^◌, ◌-◌, eqb, ℤ, pos, negsuc, ◌+ℤ◌}
+use Rattle.std.specs.Prelude.{◌≡◌, Bool, true, false, ◌||◌, cond, List, [], ◌∷◌, ℕ, ◌^◌, ◌-◌, eqb, ℤ, pos, negsuc, ◌+ℤ◌, Option, Some, None, Float, Result, Ok, Err}
 use Rattle.std.specs.Int.Signed.{lt_z}
 use Rattle.std.specs.Float.{binary64}
 use Rattle.std.specs.Float.Ieee.{add}
@@ -7,38 +7,35 @@ use Rattle.sedona_geometry.specs.Float as float
 use Rattle.sedona_geometry.specs.BoundingBox as bounding_box
 use Rattle.sedona_geometry.specs.Types as types
 use Rattle.sedona_expr.specs.Error as error
-use Rattle.sedona_expr.specs.declared.statistics.Bbox.{Bbox}
-use Rattle.sedona_expr.specs.declared.statistics.GeometryTypes.{GeometryTypes}
-use Rattle.sedona_expr.specs.declared.statistics.Total.{Total}
-use Rattle.sedona_expr.specs.declared.statistics.Extent.{Extent}
 use Rattle.sedona_expr.specs.declared.statistics.GeoStatistics.{GeoStatistics}
-use Rattle.sedona_expr.specs.declared.statistics.Merged.{Merged}
-use Rattle.sedona_expr.specs.declared.statistics.Folded.{Folded}
+use Rattle.sedona_expr.specs.declared.error.Refusal.{Refusal}
+use Rattle.sedona_geometry.specs.declared.types.GeometryTypeAndDimensionsSet.{GeometryTypeAndDimensionsSet}
+use Rattle.sedona_geometry.specs.declared.bounding_box.BoundingBox.{BoundingBox}
 
 -- ---- the parts
 
 -- A box as a call hands it on.
-abbrev pub plus_zero_where_known : Bbox → Bbox
-plus_zero_where_known Bbox.Missing = Bbox.Missing
-plus_zero_where_known (Bbox.Known a) = Bbox.Known (bounding_box.plus_zero a)
+abbrev pub plus_zero_where_known : Option BoundingBox → Option BoundingBox
+plus_zero_where_known None = None
+plus_zero_where_known (Some a) = Some (bounding_box.plus_zero a)
 
 -- Boxes merge; a missing one yields the other.
-unfoldable pub merge_bboxes : Bbox → Bbox → Bbox
-merge_bboxes Bbox.Missing b = plus_zero_where_known b
-merge_bboxes (Bbox.Known a) Bbox.Missing = Bbox.Known (bounding_box.plus_zero a)
-merge_bboxes (Bbox.Known a) (Bbox.Known b) = Bbox.Known (bounding_box.merge_box a b)
+unfoldable pub merge_bboxes : Option BoundingBox → Option BoundingBox → Option BoundingBox
+merge_bboxes None b = plus_zero_where_known b
+merge_bboxes (Some a) None = Some (bounding_box.plus_zero a)
+merge_bboxes (Some a) (Some b) = Some (bounding_box.merge_box a b)
 
 -- Type sets are or-ed; a missing one yields the other.
-unfoldable pub merge_types : GeometryTypes → GeometryTypes → GeometryTypes
-merge_types GeometryTypes.Missing t = t
-merge_types (GeometryTypes.Known s) GeometryTypes.Missing = GeometryTypes.Known s
-merge_types (GeometryTypes.Known s) (GeometryTypes.Known t) = GeometryTypes.Known (types.merge s t)
+unfoldable pub merge_types : Option GeometryTypeAndDimensionsSet → Option GeometryTypeAndDimensionsSet → Option GeometryTypeAndDimensionsSet
+merge_types None t = t
+merge_types (Some s) None = Some s
+merge_types (Some s) (Some t) = Some (types.merge s t)
 
 -- Lengths add where both are known.
-unfoldable pub add_extents : Extent → Extent → Extent
-add_extents Extent.Missing e = Extent.Missing
-add_extents (Extent.Known d) Extent.Missing = Extent.Missing
-add_extents (Extent.Known d) (Extent.Known e) = Extent.Known (add binary64 d e)
+unfoldable pub add_extents : Option Float → Option Float → Option Float
+add_extents None e = None
+add_extents (Some d) None = None
+add_extents (Some d) (Some e) = Some (add binary64 d e)
 
 -- The range of an i64: −2^63 to 2^63 − 1.
 abbrev pub least : ℤ
@@ -52,47 +49,47 @@ unfoldable pub is_outside : ℤ → Bool
 is_outside z = lt_z z least || lt_z most z
 
 -- The sum of two totals leaves the range; not where one is missing.
-unfoldable pub sum_is_outside : Total → Total → Bool
-sum_is_outside Total.Missing t = false
-sum_is_outside (Total.Known m) Total.Missing = false
-sum_is_outside (Total.Known m) (Total.Known n) = is_outside (m +ℤ n)
+unfoldable pub sum_is_outside : Option ℤ → Option ℤ → Bool
+sum_is_outside None t = false
+sum_is_outside (Some m) None = false
+sum_is_outside (Some m) (Some n) = is_outside (m +ℤ n)
 
 -- Totals add, over the whole numbers, where both are known. (A sum that leaves the range is missing here; `merge_value` refuses it.)
-unfoldable pub add_totals : Total → Total → Total
-add_totals Total.Missing t = Total.Missing
-add_totals (Total.Known m) Total.Missing = Total.Missing
-add_totals (Total.Known m) (Total.Known n) = cond (is_outside (m +ℤ n)) Total.Missing (Total.Known (m +ℤ n))
+unfoldable pub add_totals : Option ℤ → Option ℤ → Option ℤ
+add_totals None t = None
+add_totals (Some m) None = None
+add_totals (Some m) (Some n) = cond (is_outside (m +ℤ n)) None (Some (m +ℤ n))
 
 -- ---- the record
 
 abbrev pub unspecified : GeoStatistics
 unspecified = record {
-  bbox = Bbox.Missing;
-  geometry_types = GeometryTypes.Missing;
-  total_geometries = Total.Missing;
-  total_size_bytes = Total.Missing;
-  total_points = Total.Missing;
-  puntal_count = Total.Missing;
-  lineal_count = Total.Missing;
-  polygonal_count = Total.Missing;
-  collection_count = Total.Missing;
-  total_envelope_width = Extent.Missing;
-  total_envelope_height = Extent.Missing;
+  bbox = None;
+  geometry_types = None;
+  total_geometries = None;
+  total_size_bytes = None;
+  total_points = None;
+  puntal_count = None;
+  lineal_count = None;
+  polygonal_count = None;
+  collection_count = None;
+  total_envelope_width = None;
+  total_envelope_height = None;
 }
 
 abbrev pub empty : GeoStatistics
 empty = record {
-  bbox = Bbox.Known bounding_box.empty;
-  geometry_types = GeometryTypes.Known types.new;
-  total_geometries = Total.Known (pos 0);
-  total_size_bytes = Total.Known (pos 0);
-  total_points = Total.Known (pos 0);
-  puntal_count = Total.Known (pos 0);
-  lineal_count = Total.Known (pos 0);
-  polygonal_count = Total.Known (pos 0);
-  collection_count = Total.Known (pos 0);
-  total_envelope_width = Extent.Known float.zero;
-  total_envelope_height = Extent.Known float.zero;
+  bbox = Some bounding_box.empty;
+  geometry_types = Some types.new;
+  total_geometries = Some (pos 0);
+  total_size_bytes = Some (pos 0);
+  total_points = Some (pos 0);
+  puntal_count = Some (pos 0);
+  lineal_count = Some (pos 0);
+  polygonal_count = Some (pos 0);
+  collection_count = Some (pos 0);
+  total_envelope_width = Some float.zero;
+  total_envelope_height = Some float.zero;
 }
 
 -- A record as a call hands it on. The two lengths are no intervals, and stay.
@@ -115,7 +112,7 @@ plus_zero a = record {
 pub data Which : Type 0 where
   geometries size_bytes points puntal lineal polygonal collection : Which
 
-abbrev pub total : Which → GeoStatistics → Total
+abbrev pub total : Which → GeoStatistics → Option ℤ
 total geometries a = a.total_geometries
 total size_bytes a = a.total_size_bytes
 total points a = a.total_points
@@ -124,9 +121,19 @@ total lineal a = a.lineal_count
 total polygonal a = a.polygonal_count
 total collection a = a.collection_count
 
+-- A record with its number: 0, or the number that refuses it, with UNSPECIFIED beside it.
+pub record Merged : Type 0 where
+  pub number : ℕ
+  pub rec : GeoStatistics
+
 -- A number alone: the record beside it is UNSPECIFIED.
 abbrev pub refused : ℕ → Merged
 refused n = record { number = n; rec = unspecified }
+
+-- What a call answers, as a record with its number.
+abbrev pub given : Result GeoStatistics Refusal → Merged
+given (Ok r) = record { number = 0; rec = r }
+given (Err e) = refused (error.number e)
 
 unfoldable pub totals_overflow : GeoStatistics → GeoStatistics → Bool
 totals_overflow a b =
@@ -171,6 +178,12 @@ merge_or_keep a b = record { number = (merge_value a b).number; rec = cond (eqb 
 abbrev pub merge : GeoStatistics → GeoStatistics → Merged
 merge a b = merge_or_keep a b
 
+-- The records of a list in one, with the number that refused a merge, or 0, and whether the list has a record.
+pub record Folded : Type 0 where
+  pub number : ℕ
+  pub any : Bool
+  pub rec : GeoStatistics
+
 -- Of no records.
 abbrev pub start : Folded
 start = record { number = 0; any = false; rec = unspecified }
@@ -181,6 +194,12 @@ first r = record { number = 0; any = true; rec = plus_zero r }
 
 abbrev pub of_merged : Merged → Folded
 of_merged m = record { number = m.number; any = true; rec = m.rec }
+
+-- What a fold answers.
+abbrev pub folded : Result (Option GeoStatistics) Refusal → Folded
+folded (Ok None) = start
+folded (Ok (Some r)) = record { number = 0; any = true; rec = r }
+folded (Err e) = of_merged (refused (error.number e))
 
 -- A refusal, handed on.
 abbrev pub stays : Folded → Folded
@@ -200,38 +219,38 @@ fold rs = fold_from start rs
 -- ---- what the theorems speak of
 
 -- The ends of a record's box, where it has one, are doubles, as they are in the code.
-abbrev pub DoublesWhereKnown : Bbox → Type 0
-DoublesWhereKnown Bbox.Missing = Unit {0}
-DoublesWhereKnown (Bbox.Known a) = bounding_box.Doubles a
+abbrev pub DoublesWhereKnown : Option BoundingBox → Type 0
+DoublesWhereKnown None = Unit {0}
+DoublesWhereKnown (Some a) = bounding_box.Doubles a
 
 -- Request 6: no end of a record's box, where it has one, is −0.
-abbrev pub CanonicalWhereKnown : Bbox → Type 0
-CanonicalWhereKnown Bbox.Missing = Unit {0}
-CanonicalWhereKnown (Bbox.Known a) = bounding_box.Canonical a
+abbrev pub CanonicalWhereKnown : Option BoundingBox → Type 0
+CanonicalWhereKnown None = Unit {0}
+CanonicalWhereKnown (Some a) = bounding_box.Canonical a
 
 -- The box of c accepts every number that the box of b accepts, in x, y, and in z and m where c knows them, which it does only where b does.
-abbrev pub NoLess : Bbox → Bbox → Type 0
-NoLess c Bbox.Missing = Unit {0}
-NoLess Bbox.Missing (Bbox.Known b) = ⊥
-NoLess (Bbox.Known c) (Bbox.Known b) = bounding_box.NoLess c b
+abbrev pub NoLess : Option BoundingBox → Option BoundingBox → Type 0
+NoLess c None = Unit {0}
+NoLess None (Some b) = ⊥
+NoLess (Some c) (Some b) = bounding_box.NoLess c b
 
 -- The two lengths.
 pub data Side : Type 0 where
   width height : Side
 
-abbrev pub extent : Side → GeoStatistics → Extent
+abbrev pub extent : Side → GeoStatistics → Option Float
 extent width a = a.total_envelope_width
 extent height a = a.total_envelope_height
 
 -- Two totals added over the whole numbers, known where both are.
-abbrev pub plus : Total → Total → Total
-plus Total.Missing t = Total.Missing
-plus (Total.Known m) Total.Missing = Total.Missing
-plus (Total.Known m) (Total.Known n) = Total.Known (m +ℤ n)
+abbrev pub plus : Option ℤ → Option ℤ → Option ℤ
+plus None t = None
+plus (Some m) None = None
+plus (Some m) (Some n) = Some (m +ℤ n)
 
 -- The sum of a list of totals over the whole numbers, known where each is.
-abbrev pub sum : List Total → Total
-sum [] = Total.Known (pos 0)
+abbrev pub sum : List (Option ℤ) → Option ℤ
+sum [] = Some (pos 0)
 sum (t ∷ ts) = plus t (sum ts)
 
 abbrev pub whole_sum : List ℤ → ℤ
@@ -239,12 +258,12 @@ whole_sum [] = pos 0
 whole_sum (z ∷ zs) = z +ℤ whole_sum zs
 
 -- The sum of a list of lengths in its order, each addition rounded.
-abbrev pub add_all : Extent → List Extent → Extent
+abbrev pub add_all : Option Float → List (Option Float) → Option Float
 add_all e [] = e
 add_all e (d ∷ ds) = add_all (add_extents e d) ds
 
 -- No sum of the first total and some that follow leaves the range.
-abbrev pub PrefixSumsFit : Total → List Total → Type 0
+abbrev pub PrefixSumsFit : Option ℤ → List (Option ℤ) → Type 0
 PrefixSumsFit t [] = Unit {0}
 PrefixSumsFit t (u ∷ us) = (sum_is_outside t u ≡ false) × PrefixSumsFit (plus t u) us
 

@@ -1,6 +1,6 @@
 -- What the tables that are lent to a filter call spell: the boxes of literals and records, the records' types, the tree of the nodes, and which
 -- record a leaf finds. Each is total: what lies past an end reads as 0, or as no box and no types. Such tables are refused before any answer (Refusals).
-use Rattle.std.specs.Prelude.{Bool, ◌&&◌, ◌||◌, cond, List, ℕ, zero, suc, ◌+◌, ◌-◌, ◌*◌, ◌/◌, ◌%◌, eqb, ltb, length, get_or, Float}
+use Rattle.std.specs.Prelude.{Bool, ◌&&◌, ◌||◌, cond, List, ℕ, zero, suc, ◌+◌, ◌-◌, ◌*◌, ◌/◌, ◌%◌, eqb, ltb, length, get_or, Float, Option, Some, None}
 use Rattle.std.specs.Float.{nan}
 use Rattle.sedona_geometry.specs.Interval as interval
 use Rattle.sedona_geometry.specs.WraparoundInterval as wraparound
@@ -10,9 +10,8 @@ use Rattle.sedona_geometry.specs.declared.interval.Interval.{Interval}
 use Rattle.sedona_geometry.specs.declared.bounding_box.BoundingBox.{BoundingBox}
 use Rattle.sedona_expr.specs.Names.{place_of}
 use Rattle.sedona_expr.specs.SpatialFilter.{Column, Filter, intersects, covers, has_z, and, or, literal_false, unknown}
-use Rattle.sedona_expr.specs.declared.statistics.Bbox.{Bbox}
-use Rattle.sedona_expr.specs.declared.statistics.GeometryTypes.{GeometryTypes}
 use Rattle.sedona_expr.specs.declared.tables.ColumnRecord.{ColumnRecord}
+use Rattle.sedona_geometry.specs.declared.types.GeometryTypeAndDimensionsSet.{GeometryTypeAndDimensionsSet}
 
 -- ---- boxes
 
@@ -51,14 +50,14 @@ box_with ds i flag =
     bounding_box.xyzm (wraparound.from_interval (interval_at ds i 0)) (interval_at ds i 1) (bounding_box.known_where (knows_z flag) (interval_at ds i 2)) (bounding_box.known_where (knows_m flag) (interval_at ds i 3))
 
 -- The box at a place; none where the flag says so, and none past the end.
-unfoldable pub box_at : Boxes → ℕ → Bbox
+unfoldable pub box_at : Boxes → ℕ → Option BoundingBox
 box_at b i =
-    cond (ltb i (length b.doubles / ends) && has_box (get_or b.flags i 0)) (Bbox.Known (box_with b.doubles i (get_or b.flags i 0))) Bbox.Missing
+    cond (ltb i (length b.doubles / ends) && has_box (get_or b.flags i 0)) (Some (box_with b.doubles i (get_or b.flags i 0))) None
 
 -- A literal's box. (A literal that has none is refused.)
-unfoldable pub or_empty : Bbox → BoundingBox
-or_empty Bbox.Missing = bounding_box.empty
-or_empty (Bbox.Known b) = b
+unfoldable pub or_empty : Option BoundingBox → BoundingBox
+or_empty None = bounding_box.empty
+or_empty (Some b) = b
 
 -- ---- records
 
@@ -72,8 +71,8 @@ abbrev pub records : List Float → List ℕ → List ℕ → List ℕ → Recor
 records ds fs ts ks = record { boxes = boxes ds fs; types = ts; known = ks }
 
 -- The types at a place; none where the byte says so, and none past the end.
-unfoldable pub types_at : List ℕ → List ℕ → ℕ → GeometryTypes
-types_at ts ks i = cond (ltb i (length ts) && eqb (get_or ks i 0) 1) (GeometryTypes.Known (types.from_bits (get_or ts i 0))) GeometryTypes.Missing
+unfoldable pub types_at : List ℕ → List ℕ → ℕ → Option GeometryTypeAndDimensionsSet
+types_at ts ks i = cond (ltb i (length ts) && eqb (get_or ks i 0) 1) (Some (types.from_bits (get_or ts i 0))) None
 
 -- The record at a place, as a leaf sees it.
 abbrev pub record_at : Records → ℕ → ColumnRecord

@@ -1,12 +1,12 @@
 -- What contracts of private functions alone cite. Who reads the calls and the theorems need not read it: none of them rests on it.
-use Rattle.std.specs.Prelude.{◌≡◌, Bool, true, false, not, ◌&&◌, cond, List, [], ◌∷◌, ℕ, ◌+◌, ◌*◌, ◌/◌, ◌%◌, ◌^◌, ◌≤◌, ◌<◌, eqb, ltb, length, get_or, take}
-use Rattle.sedona_expr.specs.Names.{find_name}
-use Rattle.sedona_expr.specs.Statistics.{sum_is_outside, Which, total}
+use Rattle.std.specs.Prelude.{◌≡◌, Bool, true, false, not, ◌&&◌, cond, List, [], ◌∷◌, ℕ, ◌+◌, ◌*◌, ◌/◌, ◌%◌, ◌^◌, ◌≤◌, ◌<◌, eqb, ltb, length, get_or, take, Result, Ok, Err, Option, ℤ, Some, None}
+use Rattle.sedona_expr.specs.Names.{find_name, Search}
+use Rattle.sedona_expr.specs.Statistics.{sum_is_outside, add_totals, Which, total}
+use Rattle.sedona_expr.specs.declared.error.Refusal.{Refusal}
+use Rattle.sedona_expr.specs.declared.error.Refusal.TheVariants.{Overflow}
 use Rattle.sedona_expr.specs.Tables.{word, kind, is_pair, has_children}
-use Rattle.sedona_expr.specs.declared.names.NameSearch.{NameSearch}
 use Rattle.sedona_expr.specs.declared.statistics.GeoStatistics.{GeoStatistics}
-use Rattle.sedona_expr.specs.declared.tables.Children.{Children}
-use Rattle.sedona_expr.specs.declared.tables.Children.TheVariants.{Neither, Both}
+use Rattle.sedona_expr.specs.declared.tables.Pair.{Pair}
 
 -- ---- nodes
 
@@ -15,8 +15,8 @@ abbrev pub HasNode : List ℕ → ℕ → Type 0
 HasNode ns n = 4 * n + 4 ≤ length ns
 
 -- The children of a node that has them.
-unfoldable pub children_of : List ℕ → ℕ → Children
-children_of ns n = cond (has_children ns n) (Both (record { left = word ns n 1; right = word ns n 2 })) Neither
+unfoldable pub children_of : List ℕ → ℕ → Option Pair
+children_of ns n = cond (has_children ns n) (Some (record { left = word ns n 1; right = word ns n 2 })) None
 
 -- 1,024 marks, each of so many.
 abbrev pub Counted : List ℕ → (ℕ → ℕ) → Type 0
@@ -35,6 +35,10 @@ HaveMarks ns n = is_pair (kind ns n) ≡ true → (word ns n 1 < 1024) × (word 
 abbrev pub SumsStay : GeoStatistics → GeoStatistics → Type 0
 SumsStay a b = (w : Which) → sum_is_outside (total w a) (total w b) ≡ false
 
+-- Two totals added; refused where the sum leaves the range.
+unfoldable pub checked_total : Option ℤ → Option ℤ → Result (Option ℤ) Refusal
+checked_total a b = cond (sum_is_outside a b) (Err Overflow) (Ok (add_totals a b))
+
 -- ---- names
 
 -- A name that is no hit.
@@ -42,7 +46,7 @@ abbrev pub is_other : ℕ → ℕ → Bool
 is_other n m = not (eqb m n)
 
 -- The search behind so many names, none of them a hit.
-abbrev pub behind : ℕ → NameSearch → NameSearch
+abbrev pub behind : ℕ → Search → Search
 behind k s = record { hit = s.hit; place = k + s.place; compared = k + s.compared }
 
 -- The name at a place stands before it as well.

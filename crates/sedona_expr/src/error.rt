@@ -1,26 +1,65 @@
-// The numbers that a call refuses by, beside those of sedona_geometry. 0 is no refusal.
+// Why a call refuses, and the number that each reason is told by, beside those of sedona_geometry. 0 is no
+// refusal.
+ghost use Rattle.sedona_expr.specs.Error as error;
+ghost use Rattle.sedona_expr.specs.Error.{number_is_not_zero};
 
-// An i64 total leaves its range.
-pub const OVERFLOW: u32 = 3;
+use sedona_geometry::error::Numbered;
+use std::error::Error;
+use std::fmt;
 
-// Node words none, not in fours, or over 4,096.
-pub const WORDS: u32 = 4;
+#[derive(Clone, Copy, Debug, PartialEq, Eq)]
+pub enum Refusal {
+    // An i64 total leaves its range.
+    Overflow,
+    // Node words none, not in fours, or over 4,096.
+    Words,
+    // A kind over 6.
+    UnknownKind,
+    // A child not below its parent, or a node but the root not used exactly once.
+    BadTree,
+    // Lists of other lengths than they should have (doubles a flag, types or names a record), or a bad flag
+    // or byte in one.
+    BadLists,
+    // A literal number that is not lent.
+    NoLiteral,
+    // A column index that is not lent.
+    NoColumn,
+    // A name number twice among the records.
+    NameTwice,
+}
 
-// A kind over 6.
-pub const UNKNOWN_KIND: u32 = 5;
+impl Numbered for Refusal {
+    ghost number = { error.number };
 
-// A child not below its parent, or a node but the root not used exactly once.
-pub const BAD_TREE: u32 = 7;
+    fn number(self) -> u32 {
+        match self {
+            Refusal::Overflow => 3,
+            Refusal::Words => 4,
+            Refusal::UnknownKind => 5,
+            Refusal::BadTree => 7,
+            Refusal::BadLists => 8,
+            Refusal::NoLiteral => 9,
+            Refusal::NoColumn => 10,
+            Refusal::NameTwice => 11,
+        }
+    }
 
-// Lists of other lengths than they should have (doubles a flag, types or names a record), or a bad flag or
-// byte in one.
-pub const BAD_LISTS: u32 = 8;
+    ghost not_zero = { number_is_not_zero };
+}
 
-// A literal number that is not lent.
-pub const NO_LITERAL: u32 = 9;
+impl fmt::Display for Refusal {
+    fn fmt<W: fmt::Write>(&self, f: &mut fmt::Formatter<W>) -> fmt::Result {
+        match self {
+            Refusal::Overflow => write!(f, "a total leaves its range"),
+            Refusal::Words => write!(f, "node words none, not in fours, or too many"),
+            Refusal::UnknownKind => write!(f, "a node of an unknown kind"),
+            Refusal::BadTree => write!(f, "nodes that are no tree"),
+            Refusal::BadLists => write!(f, "lists of wrong lengths, or a bad flag or byte in one"),
+            Refusal::NoLiteral => write!(f, "a literal that is not lent"),
+            Refusal::NoColumn => write!(f, "a column that is not lent"),
+            Refusal::NameTwice => write!(f, "a name twice among the records"),
+        }
+    }
+}
 
-// A column index that is not lent.
-pub const NO_COLUMN: u32 = 10;
-
-// A name number twice among the records.
-pub const NAME_TWICE: u32 = 11;
+impl Error for Refusal {}

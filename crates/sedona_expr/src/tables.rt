@@ -8,12 +8,13 @@
 // y, z, m, and a flag byte: 1 box, 2 z known, 4 m known. A record's types come as the 32 bits of
 // their set, and a byte: 1 where they are known.
 ghost use Rattle.std.specs.Prelude.{◌≡◌, ◌≤◌, ◌+◌, ◌*◌, length};
+ghost use Rattle.sedona_expr.specs.Spelled as spelled;
+ghost use Rattle.sedona_expr.specs.Refusals as refusals;
 ghost use Rattle.sedona_expr.specs.Tables as tables;
 ghost use Rattle.sedona_expr.specs.Within as within;
 
 use crate::names::find_name;
-use crate::statistics::{Bbox, GeometryTypes};
-use sedona_geometry::bounding_box::{BoundingBox, Dimension};
+use sedona_geometry::bounding_box::BoundingBox;
 use sedona_geometry::interval::{Interval, WraparoundInterval};
 use sedona_geometry::types::GeometryTypeAndDimensionsSet;
 
@@ -41,15 +42,6 @@ pub const FLAG_LIMIT: u8 = 8;
 // Words of a node.
 pub(crate) const NODE: usize = 4;
 
-// Word k of a node that is there.
-pub(crate) fn word(nodes: &[u32], node: u32, k: u32) -> u32
-    requires { within.HasNode nodes.now node × (k ≤ 3) }
-    ensures { result ≡ tables.word nodes.now node k }
-{
-    let at = NODE * node as usize + k as usize;
-    nodes[at]
-}
-
 // An Intersects or a Covers.
 pub(crate) fn is_leaf(kind: u32) -> bool
     ensures { result ≡ tables.is_leaf kind }
@@ -70,36 +62,11 @@ pub(crate) fn is_pair(kind: u32) -> bool
     kind == OR
 }
 
-// The children of a node.
+// Boxes that are lent.
 #[derive(Clone, Copy)]
-pub(crate) struct Pair {
-    pub(crate) left: u32,
-    pub(crate) right: u32,
-}
-
-#[derive(Clone, Copy)]
-pub(crate) enum Children {
-    Neither,
-    Both(Pair),
-}
-
-// The children of an And or an Or, where both are below it. (One that is not is refused before.)
-pub(crate) fn children_of(nodes: &[u32], node: u32) -> Children
-    requires { within.HasNode nodes.now node }
-    ensures { result ≡ within.children_of nodes.now node }
-{
-    if is_pair(word(nodes, node, 0)) {
-        let left = word(nodes, node, 1);
-        let right = word(nodes, node, 2);
-        if left >= node {
-            return Children::Neither;
-        }
-        if right >= node {
-            return Children::Neither;
-        }
-        return Children::Both(Pair { left, right });
-    }
-    Children::Neither
+pub struct Boxes<'a> {
+    pub doubles: &'a [f64],
+    pub flags: &'a [u8],
 }
 
 // Interval k, of x, y, z, m, of the box at a place.
@@ -123,106 +90,223 @@ fn box_with(doubles: &[f64], place: usize, flag: u8) -> BoundingBox
     BoundingBox::xyzm(
         WraparoundInterval::from_interval(x),
         y,
-        Dimension::known_where(flag / 2 % 2 == 1, z),
-        Dimension::known_where(flag / 4 % 2 == 1, m),
+        (flag / 2 % 2 == 1).then_some(z),
+        (flag / 4 % 2 == 1).then_some(m),
     )
 }
 
-// The box at a place; none where the flag says so, and none past the end.
-pub fn box_at(doubles: &[f64], flags: &[u8], place: usize) -> Bbox
-    ensures { result ≡ tables.box_at (tables.boxes doubles.now flags.now) place }
-{
-    if place >= doubles.len() / ENDS {
-        return Bbox::Missing;
+impl<'a> Boxes<'a> {
+    // The boxes that two lists spell.
+    pub fn new(doubles: &'a [f64], flags: &'a [u8]) -> Boxes<'a>
+        ensures { (result.doubles.now ≡ doubles.now) × (result.flags.now ≡ flags.now) }
+    {
+        Boxes { doubles, flags }
     }
-    if place >= flags.len() {
-        return Bbox::Missing;
-    }
-    let flag = flags[place];
-    if flag % 2 == 1 {
-        return Bbox::Known(box_with(doubles, place, flag));
-    }
-    Bbox::Missing
-}
 
-// A column's record as a leaf sees it: its box, or none, and its types, or none.
-#[derive(Clone, Copy)]
-pub struct ColumnRecord {
-    pub bbox: Bbox,
-    pub types: GeometryTypes,
-}
+    // Whether there are ENDS doubles a flag.
+    pub(crate) fn are_whole(&self) -> bool
+        ensures { result ≡ refusals.are_in_boxes (spelled.boxes self.now) }
+    {
+        if self.doubles.len() % ENDS != 0 {
+            return false;
+        }
+        self.doubles.len() / ENDS == self.flags.len()
+    }
 
-// The types at a place; none where the byte says so, and none past the end.
-fn types_at(types: &[u32], known: &[u8], place: usize) -> GeometryTypes
-    ensures { result ≡ tables.types_at types.now known.now place }
-{
-    if place >= types.len() {
-        return GeometryTypes::Missing;
+    // The box at a place; none where the flag says so, and none past the end.
+    pub fn at(&self, place: usize) -> Option<BoundingBox>
+        ensures { result ≡ tables.box_at (spelled.boxes self.now) place }
+    {
+        if place >= self.doubles.len() / ENDS {
+            return None;
+        }
+        if place >= self.flags.len() {
+            return None;
+        }
+        let flag = self.flags[place];
+        if flag % 2 == 1 {
+            return Some(box_with(self.doubles, place, flag));
+        }
+        None
     }
-    if place >= known.len() {
-        return GeometryTypes::Missing;
-    }
-    if known[place] == 1 {
-        return GeometryTypes::Known(GeometryTypeAndDimensionsSet::from_bits(types[place]));
-    }
-    GeometryTypes::Missing
 }
 
 // A literal's box.
-fn or_empty(b: Bbox) -> BoundingBox
+fn or_empty(b: Option<BoundingBox>) -> BoundingBox
     ensures { result ≡ tables.or_empty b }
 {
-    let Bbox::Known(bounds) = b else {
+    let Some(bounds) = b else {
         return BoundingBox::empty();
     };
     bounds
 }
 
-// The literal of a leaf.
-pub(crate) fn literal_of(
-    nodes: &[u32],
-    literals: &[f64],
-    literal_flags: &[u8],
-    node: u32,
-) -> BoundingBox
-    requires { within.HasNode nodes.now node }
-    ensures { result ≡ tables.literal (tables.table nodes.now literals.now literal_flags.now) node }
-{
-    let b = box_at(literals, literal_flags, word(nodes, node, 3) as usize);
-    or_empty(b)
+// A filter: the words of its nodes, and its literals.
+#[derive(Clone, Copy)]
+pub struct Table<'a> {
+    pub nodes: &'a [u32],
+    pub literals: Boxes<'a>,
 }
 
-// The place of a leaf's record: by its index, or by its name.
-fn place(named: bool, names: &[u32], index: u32, name: u32) -> usize
-    ensures { result ≡ tables.place (tables.lookup named names.now) (tables.column index name) }
-{
-    if named {
-        let found = find_name(names, name);
-        found.place
-    } else {
-        index as usize
+// The children of a node.
+#[derive(Clone, Copy)]
+pub(crate) struct Pair {
+    pub(crate) left: u32,
+    pub(crate) right: u32,
+}
+
+impl<'a> Table<'a> {
+    // The filter that lists spell: its nodes' words, its literals' doubles and flags.
+    pub fn new(nodes: &'a [u32], literals: &'a [f64], literal_flags: &'a [u8]) -> Table<'a>
+        ensures { (result.nodes.now ≡ nodes.now) × (result.literals.doubles.now ≡ literals.now) × (result.literals.flags.now ≡ literal_flags.now) }
+    {
+        Table {
+            nodes,
+            literals: Boxes::new(literals, literal_flags),
+        }
+    }
+
+    // How many nodes.
+    pub(crate) fn count(&self) -> usize
+        ensures { result ≡ tables.count self.now.nodes.now }
+    {
+        self.nodes.len() / NODE
+    }
+
+    // Word k of a node that is there.
+    pub(crate) fn word(&self, node: u32, k: u32) -> u32
+        requires { within.HasNode self.now.nodes.now node × (k ≤ 3) }
+        ensures { result ≡ tables.word self.now.nodes.now node k }
+    {
+        let at = NODE * node as usize + k as usize;
+        self.nodes[at]
+    }
+
+    // The first of them: the kind.
+    pub(crate) fn kind(&self, node: u32) -> u32
+        requires { within.HasNode self.now.nodes.now node }
+        ensures { result ≡ tables.kind self.now.nodes.now node }
+    {
+        self.word(node, 0)
+    }
+
+    // The children of an And or an Or, where both are below it. (One that is not is refused before.)
+    pub(crate) fn children_of(&self, node: u32) -> Option<Pair>
+        requires { within.HasNode self.now.nodes.now node }
+        ensures { result ≡ within.children_of self.now.nodes.now node }
+    {
+        if is_pair(self.kind(node)) {
+            let left = self.word(node, 1);
+            let right = self.word(node, 2);
+            if left >= node {
+                return None;
+            }
+            if right >= node {
+                return None;
+            }
+            return Some(Pair { left, right });
+        }
+        None
+    }
+
+    // The literal of a leaf.
+    pub(crate) fn literal_of(&self, node: u32) -> BoundingBox
+        requires { within.HasNode self.now.nodes.now node }
+        ensures { result ≡ tables.literal (spelled.table self.now) node }
+    {
+        or_empty(self.literals.at(self.word(node, 3) as usize))
+    }
+}
+
+// A column's record as a leaf sees it: its box, or none, and its types, or none.
+#[derive(Clone, Copy)]
+pub struct ColumnRecord {
+    pub bbox: Option<BoundingBox>,
+    pub types: Option<GeometryTypeAndDimensionsSet>,
+}
+
+// The records of the columns: a box each, and types with a byte each.
+#[derive(Clone, Copy)]
+pub struct Records<'a> {
+    pub boxes: Boxes<'a>,
+    pub types: &'a [u32],
+    pub known: &'a [u8],
+}
+
+impl<'a> Records<'a> {
+    // The records that lists spell: their boxes' doubles and flags, their types, and the bytes beside these.
+    pub fn new(
+        doubles: &'a [f64],
+        flags: &'a [u8],
+        types: &'a [u32],
+        known: &'a [u8],
+    ) -> Records<'a>
+        ensures { (result.boxes.doubles.now ≡ doubles.now) × (result.boxes.flags.now ≡ flags.now) × (result.types.now ≡ types.now) × (result.known.now ≡ known.now) }
+    {
+        Records {
+            boxes: Boxes::new(doubles, flags),
+            types,
+            known,
+        }
+    }
+
+    // The types at a place; none where the byte says so, and none past the end.
+    fn types_at(&self, place: usize) -> Option<GeometryTypeAndDimensionsSet>
+        ensures { result ≡ tables.types_at self.now.types.now self.now.known.now place }
+    {
+        if place >= self.types.len() {
+            return None;
+        }
+        if place >= self.known.len() {
+            return None;
+        }
+        if self.known[place] == 1 {
+            return Some(GeometryTypeAndDimensionsSet::from_bits(self.types[place]));
+        }
+        None
+    }
+
+    // The record at a place.
+    pub(crate) fn at(&self, place: usize) -> ColumnRecord
+        ensures { result ≡ tables.record_at (spelled.records self.now) place }
+    {
+        ColumnRecord {
+            bbox: self.boxes.at(place),
+            types: self.types_at(place),
+        }
+    }
+}
+
+// How a leaf finds its record: by its column's index, or by its name among the records' names.
+#[derive(Clone, Copy)]
+pub enum Lookup<'a> {
+    ByPosition,
+    ByName(&'a [u32]),
+}
+
+impl<'a> Lookup<'a> {
+    // The place of a record.
+    fn place(&self, index: u32, name: u32) -> usize
+        ensures { result ≡ tables.place (spelled.lookup self.now) (tables.column index name) }
+    {
+        match self {
+            Lookup::ByPosition => index as usize,
+            Lookup::ByName(names) => find_name(names, name).place.unwrap_or(names.len()),
+        }
     }
 }
 
 // The record of a leaf.
 pub(crate) fn record_of(
-    nodes: &[u32],
-    records: &[f64],
-    record_flags: &[u8],
-    record_types: &[u32],
-    types_known: &[u8],
-    named: bool,
-    names: &[u32],
+    table: &Table,
+    records: &Records,
+    lookup: &Lookup,
     node: u32,
 ) -> ColumnRecord
-    requires { within.HasNode nodes.now node }
-    ensures { result ≡ tables.record_of (tables.lookup named names.now) (tables.records records.now record_flags.now record_types.now types_known.now) (tables.column_of nodes.now node) }
+    requires { within.HasNode table.now.nodes.now node }
+    ensures { result ≡ tables.record_of (spelled.lookup lookup.now) (spelled.records records.now) (tables.column_of table.now.nodes.now node) }
 {
-    let index = word(nodes, node, 1);
-    let name = word(nodes, node, 2);
-    let at = place(named, names, index, name);
-    ColumnRecord {
-        bbox: box_at(records, record_flags, at),
-        types: types_at(record_types, types_known, at),
-    }
+    let index = table.word(node, 1);
+    let name = table.word(node, 2);
+    records.at(lookup.place(index, name))
 }

@@ -1,4 +1,5 @@
 -- No call sees the sign of a zero that comes in: what it answers and gives is the same. Operations first, then intervals, x and boxes. Assumes nothing.
+use Rattle.std.specs.Prelude.{Option, Some, None}
 use mathlib.Core.Path.{◌≡◌, refl, ap, ap₂, ◌∙◌}
 use mathlib.Core.Bool.{Bool, true, false, not, ◌&&◌, ◌||◌, cond}
 use Prim.Native.Nat.{ℕ, zero, suc, ◌*◌, ◌<◌}
@@ -16,8 +17,6 @@ use Rattle.sedona_geometry.specs.declared.interval.Pieces.{Pieces}
 use Rattle.sedona_geometry.specs.declared.interval.WraparoundInterval.{WraparoundInterval}
 use Rattle.sedona_geometry.specs.WraparoundInterval as wraparound
 use Rattle.sedona_geometry.specs.BoundingBox.{test_known, join_known, plus_zero_where_known, plus_zero, intersects, contains, expand_by, merge_box, intersection, KnownAlike, Both}
-use Rattle.sedona_geometry.specs.declared.bounding_box.Dimension.{Dimension}
-use Rattle.sedona_geometry.specs.declared.bounding_box.Dimension.TheVariants.{Missing, Known}
 use Rattle.sedona_geometry.specs.declared.bounding_box.BoundingBox.{BoundingBox}
 use Rattle.sedona_geometry.proofs.PlusZero.{Alike, same, zeros, alike_plus, plus_alike, nan_alike, lt_alike, eq_alike, le_alike}
 use Rattle.sedona_geometry.proofs.Rounding.{round_zero, positive}
@@ -306,19 +305,19 @@ module _ {x x' y y' : WraparoundInterval} (h : SameX x x') (k : SameX y y') wher
       rw (wraps_alike h, wraps_alike k, intersect_wrapped_alike h k, intersect_plain_alike h k, intersect_plain_alike k h, intersection_alike h k)
 
 -- ---- boxes: the same dimensions are known, and all ends are alike
-abbrev pub SameKnown : Dimension → Dimension → Type 0
+abbrev pub SameKnown : Option Interval → Option Interval → Type 0
 SameKnown = KnownAlike SameEnds
 
 abbrev pub SameBox : BoundingBox → BoundingBox → Type 0
 SameBox = Both SameX SameEnds SameKnown
 
-plus_same_known : (d : Dimension) → SameKnown (plus_zero_where_known d) d
-plus_same_known Missing = tt
-plus_same_known (Known i) = plus_same i
+plus_same_known : (d : Option Interval) → SameKnown (plus_zero_where_known d) d
+plus_same_known None = tt
+plus_same_known (Some i) = plus_same i
 
-same_known_itself : (d : Dimension) → SameKnown d d
-same_known_itself Missing = tt
-same_known_itself (Known i) = itself i
+same_known_itself : (d : Option Interval) → SameKnown d d
+same_known_itself None = tt
+same_known_itself (Some i) = itself i
 
 pub same_itself : (a : BoundingBox) → SameBox a a
 same_itself a = record { x = itself a.x.inner; y = itself a.y; z = same_known_itself a.z; m = same_known_itself a.m }
@@ -327,34 +326,34 @@ same_itself a = record { x = itself a.x.inner; y = itself a.y; z = same_known_it
 pub plus_same_box : (a : BoundingBox) → SameBox (plus_zero a) a
 plus_same_box a = record { x = plus_same a.x.inner; y = plus_same a.y; z = plus_same_known a.z; m = plus_same_known a.m }
 
-plus_known_alike : (d e : Dimension) → SameKnown d e → plus_zero_where_known d ≡ plus_zero_where_known e
-plus_known_alike Missing Missing h = refl
-plus_known_alike Missing (Known j) h = absurd h
-plus_known_alike (Known i) Missing h = absurd h
-plus_known_alike (Known i) (Known j) h = ap (λ (l : Interval). Known l) (plus_zero_alike h)
+plus_known_alike : (d e : Option Interval) → SameKnown d e → plus_zero_where_known d ≡ plus_zero_where_known e
+plus_known_alike None None h = refl
+plus_known_alike None (Some j) h = absurd h
+plus_known_alike (Some i) None h = absurd h
+plus_known_alike (Some i) (Some j) h = ap (λ (l : Interval). Some l) (plus_zero_alike h)
 
 -- of two pairs: the first two are missing, the second two are, or all are known
-by_known : (P : Dimension → Dimension → Dimension → Dimension → Type 0) → ((e e' : Dimension) → P Missing Missing e e') → ((i i' : Interval) → P (Known i) (Known i') Missing Missing)
-    → ((i i' j j' : Interval) → SameEnds i i' → SameEnds j j' → P (Known i) (Known i') (Known j) (Known j'))
-    → (d d' e e' : Dimension) → SameKnown d d' → SameKnown e e' → P d d' e e'
-by_known P p q r Missing Missing e e' h k = p e e'
-by_known P p q r Missing (Known i') e e' h k = absurd h
-by_known P p q r (Known i) Missing e e' h k = absurd h
-by_known P p q r (Known i) (Known i') Missing Missing h k = q i i'
-by_known P p q r (Known i) (Known i') Missing (Known j') h k = absurd k
-by_known P p q r (Known i) (Known i') (Known j) Missing h k = absurd k
-by_known P p q r (Known i) (Known i') (Known j) (Known j') h k = r i i' j j' h k
+by_known : (P : Option Interval → Option Interval → Option Interval → Option Interval → Type 0) → ((e e' : Option Interval) → P None None e e') → ((i i' : Interval) → P (Some i) (Some i') None None)
+    → ((i i' j j' : Interval) → SameEnds i i' → SameEnds j j' → P (Some i) (Some i') (Some j) (Some j'))
+    → (d d' e e' : Option Interval) → SameKnown d d' → SameKnown e e' → P d d' e e'
+by_known P p q r None None e e' h k = p e e'
+by_known P p q r None (Some i') e e' h k = absurd h
+by_known P p q r (Some i) None e e' h k = absurd h
+by_known P p q r (Some i) (Some i') None None h k = q i i'
+by_known P p q r (Some i) (Some i') None (Some j') h k = absurd k
+by_known P p q r (Some i) (Some i') (Some j) None h k = absurd k
+by_known P p q r (Some i) (Some i') (Some j) (Some j') h k = r i i' j j' h k
 
 test_alike : (f : Interval → Interval → Bool) → ((i i' j j' : Interval) → SameEnds i i' → SameEnds j j' → f i j ≡ f i' j')
-    → (d d' e e' : Dimension) → SameKnown d d' → SameKnown e e' → test_known f d e ≡ test_known f d' e'
+    → (d d' e e' : Option Interval) → SameKnown d d' → SameKnown e e' → test_known f d e ≡ test_known f d' e'
 unfolding test_known
 test_alike f alike = by_known (λ d d' e e'. test_known f d e ≡ test_known f d' e') (λ e e'. refl) (λ i i'. refl) alike
 
 join_alike : (f : Interval → Interval → Interval) → ((i i' j j' : Interval) → SameEnds i i' → SameEnds j j' → f i j ≡ f i' j')
-    → (d d' e e' : Dimension) → SameKnown d d' → SameKnown e e' → join_known f d e ≡ join_known f d' e'
+    → (d d' e e' : Option Interval) → SameKnown d d' → SameKnown e e' → join_known f d e ≡ join_known f d' e'
 unfolding join_known
 join_alike f alike =
-    by_known (λ d d' e e'. join_known f d e ≡ join_known f d' e') (λ e e'. refl) (λ i i'. refl) (λ i i' j j' h k. ap (λ (l : Interval). Known l) (alike i i' j j' h k))
+    by_known (λ d d' e e'. join_known f d e ≡ join_known f d' e') (λ e e'. refl) (λ i i'. refl) (λ i i' j j' h k. ap (λ (l : Interval). Some l) (alike i i' j j' h k))
 
 module _ {a a' b b' : BoundingBox} (h : SameBox a a') (k : SameBox b b') where
   pub boxes_intersect_alike : intersects a b ≡ intersects a' b'

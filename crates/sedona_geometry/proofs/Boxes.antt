@@ -1,5 +1,6 @@
 -- Laws of boxes: merging loses nothing, a common number means intersecting, merging and intersecting keep what is contained.
 -- Each is said once for a dimension. Assumes nothing.
+use Rattle.std.specs.Prelude.{Option, Some, None}
 use mathlib.Core.Path.{◌≡◌, refl, sym, ap, ◌∙◌}
 use mathlib.Core.Logic.{◌⊎◌, inl, inr, ⊎_elim}
 use mathlib.Core.Bool.{true, false, ◌&&◌}
@@ -9,8 +10,6 @@ use Rattle.sedona_geometry.specs.WraparoundInterval as wraparound
 use Rattle.sedona_geometry.specs.BoundingBox.{test_known, join_known, dimensions_intersect, dimensions_contain, merge_dimensions, intersect_dimensions, intersects, contains, merge_box, with_x, intersection, accepted, plus_zero_where_known, plus_zero, WhereKnown, WhereBothKnown, Both, Each, Doubles, Canonical, AcceptsAllOfKnown, NoLess, Common}
 use Rattle.sedona_geometry.specs.declared.interval.Interval.{Interval}
 use Rattle.sedona_geometry.specs.declared.interval.WraparoundInterval.{WraparoundInterval}
-use Rattle.sedona_geometry.specs.declared.bounding_box.Dimension.{Dimension}
-use Rattle.sedona_geometry.specs.declared.bounding_box.Dimension.TheVariants.{Missing, Known}
 use Rattle.sedona_geometry.specs.declared.bounding_box.BoundingBox.{BoundingBox}
 use Rattle.sedona_geometry.proofs.Booleans.{holds, is_true, both_true}
 use Rattle.sedona_geometry.proofs.Order.{Le}
@@ -25,9 +24,9 @@ use Rattle.sedona_geometry.proofs.Contains as containing
 use Rattle.sedona_geometry.proofs.Contains.{Straight}
 
 -- ---- what follows of an interval follows of a box
-pub known_map : {P Q : Interval → Type 0} → ((i : Interval) → P i → Q i) → (d : Dimension) → WhereKnown P d → WhereKnown Q d
-known_map f Missing h = tt
-known_map f (Known i) h = f i h
+pub known_map : {P Q : Interval → Type 0} → ((i : Interval) → P i → Q i) → (d : Option Interval) → WhereKnown P d → WhereKnown Q d
+known_map f None h = tt
+known_map f (Some i) h = f i h
 
 pub each_map : {P Q : Interval → Type 0} {b : BoundingBox} → ((i : Interval) → P i → Q i) → Each P b → Each Q b
 each_map {b = b} f h = record {
@@ -47,17 +46,17 @@ merge_is a b =
     (canonical.merge_x_canonical a.x b.x) (canonical.merge_canonical a.y b.y) (canonical.merge_dimensions_canonical a.z b.z) (canonical.merge_dimensions_canonical a.m b.m)
 
 -- ---- merging loses nothing
-merge_dimensions_left : (d e : Dimension) → AcceptsAllOfKnown (merge_dimensions d e) d
+merge_dimensions_left : (d e : Option Interval) → AcceptsAllOfKnown (merge_dimensions d e) d
 unfolding join_known
-merge_dimensions_left Missing e = tt
-merge_dimensions_left (Known i) Missing = tt
-merge_dimensions_left (Known i) (Known j) = λ v h. plain.merge_accepts_left j h
+merge_dimensions_left None e = tt
+merge_dimensions_left (Some i) None = tt
+merge_dimensions_left (Some i) (Some j) = λ v h. plain.merge_accepts_left j h
 
-merge_dimensions_right : (d e : Dimension) → AcceptsAllOfKnown (merge_dimensions d e) e
+merge_dimensions_right : (d e : Option Interval) → AcceptsAllOfKnown (merge_dimensions d e) e
 unfolding join_known
-merge_dimensions_right Missing e = tt
-merge_dimensions_right (Known i) Missing = tt
-merge_dimensions_right (Known i) (Known j) = λ v h. plain.merge_accepts_right i h
+merge_dimensions_right None e = tt
+merge_dimensions_right (Some i) None = tt
+merge_dimensions_right (Some i) (Some j) = λ v h. plain.merge_accepts_right i h
 
 pub merge_no_less_left : {a b : BoundingBox} → Doubles a → Doubles b → NoLess (merge_box a b) a
 merge_no_less_left {a} {b} D E = rw (merge_is a b) (record {
@@ -76,9 +75,9 @@ merge_no_less_right {a} {b} D E = rw (merge_is a b) (record {
 })
 
 -- ---- a box handed on
-plus_known_no_less : (d : Dimension) → AcceptsAllOfKnown (plus_zero_where_known d) d
-plus_known_no_less Missing = tt
-plus_known_no_less (Known i) = λ v h. plain.plus_accepts i h
+plus_known_no_less : (d : Option Interval) → AcceptsAllOfKnown (plus_zero_where_known d) d
+plus_known_no_less None = tt
+plus_known_no_less (Some i) = λ v h. plain.plus_accepts i h
 
 pub plus_no_less : (a : BoundingBox) → NoLess (plus_zero a) a
 plus_no_less a = record {
@@ -89,9 +88,9 @@ plus_no_less a = record {
 }
 
 -- and no more
-of_plus_known : (d : Dimension) → AcceptsAllOfKnown d (plus_zero_where_known d)
-of_plus_known Missing = tt
-of_plus_known (Known i) = λ v h. plain.of_plus_accepts i h
+of_plus_known : (d : Option Interval) → AcceptsAllOfKnown d (plus_zero_where_known d)
+of_plus_known None = tt
+of_plus_known (Some i) = λ v h. plain.of_plus_accepts i h
 
 pub of_plus_no_less : (a : BoundingBox) → NoLess a (plus_zero a)
 of_plus_no_less a = record {
@@ -101,9 +100,9 @@ of_plus_no_less a = record {
   m = of_plus_known a.m;
 }
 
-pub plus_known_doubles : (d : Dimension) → WhereKnown interval.Doubles d → WhereKnown interval.Doubles (plus_zero_where_known d)
-plus_known_doubles Missing D = tt
-plus_known_doubles (Known i) D = plain.plus_doubles D
+pub plus_known_doubles : (d : Option Interval) → WhereKnown interval.Doubles d → WhereKnown interval.Doubles (plus_zero_where_known d)
+plus_known_doubles None D = tt
+plus_known_doubles (Some i) D = plain.plus_doubles D
 
 pub plus_doubles : {a : BoundingBox} → Doubles a → Doubles (plus_zero a)
 plus_doubles {a} D = record {
@@ -114,11 +113,11 @@ plus_doubles {a} D = record {
 }
 
 -- ---- merged ends are doubles
-merge_dimensions_doubles : (d e : Dimension) → WhereKnown interval.Doubles d → WhereKnown interval.Doubles e → WhereKnown interval.Doubles (merge_dimensions d e)
+merge_dimensions_doubles : (d e : Option Interval) → WhereKnown interval.Doubles d → WhereKnown interval.Doubles e → WhereKnown interval.Doubles (merge_dimensions d e)
 unfolding join_known
-merge_dimensions_doubles Missing e D E = tt
-merge_dimensions_doubles (Known i) Missing D E = tt
-merge_dimensions_doubles (Known i) (Known j) D E = plain.merge_doubles D E
+merge_dimensions_doubles None e D E = tt
+merge_dimensions_doubles (Some i) None D E = tt
+merge_dimensions_doubles (Some i) (Some j) D E = plain.merge_doubles D E
 
 pub merge_doubles : {a b : BoundingBox} → Doubles a → Doubles b → Doubles (merge_box a b)
 merge_doubles {a} {b} D E = rw (merge_is a b) (record {
@@ -129,15 +128,15 @@ merge_doubles {a} {b} D E = rw (merge_is a b) (record {
 })
 
 -- ---- accepting no less is a preorder
-known_refl : (d : Dimension) → AcceptsAllOfKnown d d
-known_refl Missing = tt
-known_refl (Known i) = λ v h. h
+known_refl : (d : Option Interval) → AcceptsAllOfKnown d d
+known_refl None = tt
+known_refl (Some i) = λ v h. h
 
-known_trans : (f e d : Dimension) → AcceptsAllOfKnown f e → AcceptsAllOfKnown e d → AcceptsAllOfKnown f d
-known_trans Missing e d p q = tt
-known_trans (Known k) Missing d p q = absurd p
-known_trans (Known k) (Known j) Missing p q = q
-known_trans (Known k) (Known j) (Known i) p q = λ v h. p v (q v h)
+known_trans : (f e d : Option Interval) → AcceptsAllOfKnown f e → AcceptsAllOfKnown e d → AcceptsAllOfKnown f d
+known_trans None e d p q = tt
+known_trans (Some k) None d p q = absurd p
+known_trans (Some k) (Some j) None p q = q
+known_trans (Some k) (Some j) (Some i) p q = λ v h. p v (q v h)
 
 pub no_less_refl : (a : BoundingBox) → NoLess a a
 no_less_refl a = record { x = λ v h. h; y = λ v h. h; z = known_refl a.z; m = known_refl a.m }
@@ -151,11 +150,11 @@ no_less_trans {c} {b} {a} p q = record {
 }
 
 -- ---- boxes with a common number intersect
-dimensions_intersect_lem : (d e : Dimension) → WhereBothKnown interval.Common d e → dimensions_intersect d e ≡ true
+dimensions_intersect_lem : (d e : Option Interval) → WhereBothKnown interval.Common d e → dimensions_intersect d e ≡ true
 unfolding test_known
-dimensions_intersect_lem Missing e c = refl
-dimensions_intersect_lem (Known i) Missing c = refl
-dimensions_intersect_lem (Known i) (Known j) c = plain.common_intersect c.left c.right
+dimensions_intersect_lem None e c = refl
+dimensions_intersect_lem (Some i) None c = refl
+dimensions_intersect_lem (Some i) (Some j) c = plain.common_intersect c.left c.right
 
 pub common_intersect : {a b : BoundingBox} → Common a b → intersects a b ≡ true
 unfolding intersects
@@ -167,7 +166,7 @@ common_intersect {a} {b} c =
 abbrev pub XContains : WraparoundInterval → WraparoundInterval → Type 0
 XContains x y = wraparound.contains_interval x y ≡ true
 
-abbrev pub KnownContains : Dimension → Dimension → Type 0
+abbrev pub KnownContains : Option Interval → Option Interval → Type 0
 KnownContains d e = dimensions_contain d e ≡ true
 
 abbrev pub Parts : BoundingBox → BoundingBox → Type 0
@@ -208,12 +207,12 @@ unfolding contains
 contains_as_the_rust a b w u n = rw (containing.contains_as_the_rust a.x b.x w u n)
 
 -- ---- merging keeps what either contains
-merge_dimensions_contain : (d e k : Dimension) → (dimensions_contain d k ≡ true) ⊎ (dimensions_contain e k ≡ true) → dimensions_contain (merge_dimensions d e) k ≡ true
+merge_dimensions_contain : (d e k : Option Interval) → (dimensions_contain d k ≡ true) ⊎ (dimensions_contain e k ≡ true) → dimensions_contain (merge_dimensions d e) k ≡ true
 unfolding test_known join_known
-merge_dimensions_contain Missing e k h = refl
-merge_dimensions_contain (Known i) Missing k h = refl
-merge_dimensions_contain (Known i) (Known j) Missing h = refl
-merge_dimensions_contain (Known i) (Known j) (Known l) h =
+merge_dimensions_contain None e k h = refl
+merge_dimensions_contain (Some i) None k h = refl
+merge_dimensions_contain (Some i) (Some j) None h = refl
+merge_dimensions_contain (Some i) (Some j) (Some l) h =
     ⊎_elim (λ a. (plain.merge_contains_left j (record { holds = a })).holds) (λ b. (plain.merge_contains_right i (record { holds = b })).holds) h
 
 pub merge_contains : {a b k : BoundingBox} → Doubles a → Doubles b → Parts a k ⊎ Parts b k → Parts (merge_box a b) k
@@ -231,12 +230,12 @@ Rising i = Le i.lo i.hi
 abbrev pub LowToHigh : BoundingBox → Type 0
 LowToHigh = Each Rising
 
-intersect_dimensions_contain : (d e k : Dimension) → WhereKnown Rising k → dimensions_contain d k ≡ true → dimensions_contain e k ≡ true → dimensions_contain (intersect_dimensions d e) k ≡ true
+intersect_dimensions_contain : (d e k : Option Interval) → WhereKnown Rising k → dimensions_contain d k ≡ true → dimensions_contain e k ≡ true → dimensions_contain (intersect_dimensions d e) k ≡ true
 unfolding test_known join_known
-intersect_dimensions_contain Missing e k l h g = refl
-intersect_dimensions_contain (Known i) Missing k l h g = refl
-intersect_dimensions_contain (Known i) (Known j) Missing l h g = refl
-intersect_dimensions_contain (Known i) (Known j) (Known o) l h g = (containing.intersection_contains l (record { holds = h }) (record { holds = g })).holds
+intersect_dimensions_contain None e k l h g = refl
+intersect_dimensions_contain (Some i) None k l h g = refl
+intersect_dimensions_contain (Some i) (Some j) None l h g = refl
+intersect_dimensions_contain (Some i) (Some j) (Some o) l h g = (containing.intersection_contains l (record { holds = h }) (record { holds = g })).holds
 
 -- it is never refused
 abbrev pub met : BoundingBox → BoundingBox → BoundingBox

@@ -1,4 +1,5 @@
 -- Request 6: what a call gives has no −0, call by call; and where it is handed on it stays. Assumes nothing.
+use Rattle.std.specs.Prelude.{Option, Some, None, Result, Ok, Err}
 use mathlib.Core.Path.{◌≡◌, refl, ap, ap₂}
 use mathlib.Core.Bool.{Bool, true, false, not, ◌||◌, cond}
 use Prim.Native.Nat.{ℕ}
@@ -13,11 +14,7 @@ use Rattle.sedona_geometry.specs.BoundingBox.{WhereKnown}
 use Rattle.sedona_geometry.specs.declared.interval.Interval.{Interval}
 use Rattle.sedona_geometry.specs.declared.interval.WraparoundInterval.{WraparoundInterval}
 use Rattle.sedona_geometry.specs.declared.interval.Pieces.{Pieces}
-use Rattle.sedona_geometry.specs.declared.interval.Conversion.{Conversion}
-use Rattle.sedona_geometry.specs.declared.interval.Intersection.{Intersection}
-use Rattle.sedona_geometry.specs.declared.interval.Intersection.TheVariants.{Single, Refused}
-use Rattle.sedona_geometry.specs.declared.bounding_box.Dimension.{Dimension}
-use Rattle.sedona_geometry.specs.declared.bounding_box.Dimension.TheVariants.{Missing, Known}
+use Rattle.sedona_geometry.specs.declared.error.Refusal.{Refusal}
 use Rattle.sedona_geometry.specs.declared.bounding_box.BoundingBox.{BoundingBox}
 use Rattle.sedona_geometry.proofs.Booleans.{of_cond}
 use Rattle.sedona_geometry.proofs.PlusZero.{never_minus, stays}
@@ -84,9 +81,9 @@ pub full_x_canonical : CanonicalX wraparound.full
 full_x_canonical = full_canonical
 
 -- a conversion's interval, where it is not refused
-pub data CanonicalWherePlain : Conversion → Type 0 where
-  plain : {i : Interval} → Canonical i → CanonicalWherePlain (Conversion.Plain i)
-  no_plain : {n : ℕ} → CanonicalWherePlain (Conversion.Refused n)
+pub data CanonicalWherePlain : Result Interval Refusal → Type 0 where
+  plain : {i : Interval} → Canonical i → CanonicalWherePlain (Ok i)
+  no_plain : {e : Refusal} → CanonicalWherePlain (Err e)
 
 pub try_into_interval_canonical : (x : WraparoundInterval) → CanonicalWherePlain (wraparound.try_into_interval x)
 unfolding wraparound.try_into_interval
@@ -141,9 +138,9 @@ expand_x_canonical x d =
     (new_canonical (sub binary64 x.inner.lo d) (add binary64 x.inner.hi d))))
 
 -- an intersection's x, where it is not refused
-pub data CanonicalWhereSingle : Intersection → Type 0 where
-  single : {x : WraparoundInterval} → CanonicalX x → CanonicalWhereSingle (Single x)
-  no_single : {n : ℕ} → CanonicalWhereSingle (Refused n)
+pub data CanonicalWhereSingle : Result WraparoundInterval Refusal → Type 0 where
+  single : {x : WraparoundInterval} → CanonicalX x → CanonicalWhereSingle (Ok x)
+  no_single : {e : Refusal} → CanonicalWhereSingle (Err e)
 
 intersect_plain_canonical : (x y : WraparoundInterval) → CanonicalWhereSingle (wraparound.intersect_plain x y)
 unfolding wraparound.intersect_plain
@@ -166,28 +163,28 @@ intersection_x_canonical x y =
     (of_cond CanonicalWhereSingle (wraparound.is_wraparound y) (intersect_plain_canonical x y) (single (from_interval_canonical (interval.intersection x.inner y.inner))))
 
 -- ---- dimensions
-plus_zero_where_known_canonical : (d : Dimension) → WhereKnown Canonical (bounding_box.plus_zero_where_known d)
-plus_zero_where_known_canonical Missing = tt
-plus_zero_where_known_canonical (Known i) = new_canonical i.lo i.hi
+plus_zero_where_known_canonical : (d : Option Interval) → WhereKnown Canonical (bounding_box.plus_zero_where_known d)
+plus_zero_where_known_canonical None = tt
+plus_zero_where_known_canonical (Some i) = new_canonical i.lo i.hi
 
-stays_where_known : (d : Dimension) → WhereKnown Canonical d → bounding_box.plus_zero_where_known d ≡ d
-stays_where_known Missing c = refl
-stays_where_known (Known i) c = ap (λ (j : Interval). Known j) (stays_interval c)
+stays_where_known : (d : Option Interval) → WhereKnown Canonical d → bounding_box.plus_zero_where_known d ≡ d
+stays_where_known None c = refl
+stays_where_known (Some i) c = ap (λ (j : Interval). Some j) (stays_interval c)
 
-join_canonical : (f : Interval → Interval → Interval) → ((i j : Interval) → Canonical (f i j)) → (d e : Dimension) → WhereKnown Canonical (bounding_box.join_known f d e)
+join_canonical : (f : Interval → Interval → Interval) → ((i j : Interval) → Canonical (f i j)) → (d e : Option Interval) → WhereKnown Canonical (bounding_box.join_known f d e)
 unfolding bounding_box.join_known
-join_canonical f c Missing e = tt
-join_canonical f c (Known i) Missing = tt
-join_canonical f c (Known i) (Known j) = c i j
+join_canonical f c None e = tt
+join_canonical f c (Some i) None = tt
+join_canonical f c (Some i) (Some j) = c i j
 
-pub merge_dimensions_canonical : (d e : Dimension) → WhereKnown Canonical (bounding_box.merge_dimensions d e)
+pub merge_dimensions_canonical : (d e : Option Interval) → WhereKnown Canonical (bounding_box.merge_dimensions d e)
 merge_dimensions_canonical d e = join_canonical interval.merge_interval merge_canonical d e
 
-pub intersect_dimensions_canonical : (d e : Dimension) → WhereKnown Canonical (bounding_box.intersect_dimensions d e)
+pub intersect_dimensions_canonical : (d e : Option Interval) → WhereKnown Canonical (bounding_box.intersect_dimensions d e)
 intersect_dimensions_canonical d e = join_canonical interval.intersection intersection_canonical d e
 
 -- ---- boxes
-pub xyzm_canonical : (x : WraparoundInterval) (y : Interval) (z m : Dimension) → bounding_box.Canonical (bounding_box.xyzm x y z m)
+pub xyzm_canonical : (x : WraparoundInterval) (y : Interval) (z m : Option Interval) → bounding_box.Canonical (bounding_box.xyzm x y z m)
 xyzm_canonical x y z m = record {
   x = from_interval_canonical x.inner;
   y = new_canonical y.lo y.hi;
@@ -196,7 +193,7 @@ xyzm_canonical x y z m = record {
 }
 
 -- made of canonical parts, it is made of these
-pub xyzm_is : (x : WraparoundInterval) (y : Interval) (z m : Dimension) → CanonicalX x → Canonical y → WhereKnown Canonical z → WhereKnown Canonical m
+pub xyzm_is : (x : WraparoundInterval) (y : Interval) (z m : Option Interval) → CanonicalX x → Canonical y → WhereKnown Canonical z → WhereKnown Canonical m
     → bounding_box.xyzm x y z m ≡ record { x = x; y = y; z = z; m = m }
 xyzm_is x y z m cx cy cz cm = rw (stays_x cx, stays_interval cy, stays_where_known z cz, stays_where_known m cm)
 
@@ -204,7 +201,7 @@ pub stays_box : {a : BoundingBox} → bounding_box.Canonical a → bounding_box.
 stays_box {a} c = xyzm_is a.x a.y a.z a.m c.x c.y c.z c.m
 
 pub xy_canonical : (x : WraparoundInterval) (y : Interval) → bounding_box.Canonical (bounding_box.xy x y)
-xy_canonical x y = xyzm_canonical x y Missing Missing
+xy_canonical x y = xyzm_canonical x y None None
 
 pub empty_box_canonical : bounding_box.Canonical bounding_box.empty
 empty_box_canonical = xy_canonical wraparound.empty interval.empty
@@ -238,10 +235,10 @@ numbered_canonical n a = go (eqb n 0)
     go true = accepted_canonical a
     go false = empty_box_canonical
 
-with_x_canonical : (i : Intersection) (y : Interval) (z m : Dimension) → bounding_box.Canonical (bounding_box.with_x i y z m).bounds
+with_x_canonical : (i : Result WraparoundInterval Refusal) (y : Interval) (z m : Option Interval) → bounding_box.Canonical (bounding_box.with_x i y z m).bounds
 unfolding bounding_box.with_x
-with_x_canonical (Refused n) y z m = empty_box_canonical
-with_x_canonical (Single x) y z m = accepted_canonical (bounding_box.xyzm x y z m)
+with_x_canonical (Err e) y z m = empty_box_canonical
+with_x_canonical (Ok x) y z m = accepted_canonical (bounding_box.xyzm x y z m)
 
 pub intersection_box_canonical : (a b : BoundingBox) → bounding_box.Canonical (bounding_box.intersection a b).bounds
 unfolding bounding_box.intersection

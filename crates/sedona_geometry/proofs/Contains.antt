@@ -1,5 +1,6 @@
 -- What an x contains: merging keeps it, and an intersection of two that run low to high keeps what both contain and accepts what both accept.
 -- Assumes nothing.
+use Rattle.std.specs.Prelude.{Ok}
 use mathlib.Core.Path.{◌≡◌, refl, sym, ◌∙◌}
 use mathlib.Core.Logic.{◌⊎◌, inl, inr, ⊎_elim, ◌↔◌}
 use mathlib.Core.Bool.{Bool, true, false, ◌||◌, cond, and-true}
@@ -12,7 +13,6 @@ use Rattle.sedona_geometry.specs.Interval.{Doubles}
 use Rattle.sedona_geometry.specs.WraparoundInterval.{Accepts, from_interval, plus_zero, is_empty, is_wraparound, split, pieces_contain, contains_interval, contains_one_by_one, merge_interval, merge_non_empty, intersection}
 use Rattle.sedona_geometry.specs.declared.interval.Interval.{Interval}
 use Rattle.sedona_geometry.specs.declared.interval.WraparoundInterval.{WraparoundInterval}
-use Rattle.sedona_geometry.specs.declared.interval.Intersection.{Intersection}
 use Rattle.sedona_geometry.proofs.Booleans.{holds, fails, is_true, is_false, or_left, or_right, or_cases}
 use Rattle.sedona_geometry.proofs.Order.{Number, Le, le_of_eq, le_of_not_lt, le_refl, le_trans, le_number, lt_not_le}
 use Rattle.sedona_geometry.proofs.MinMax.{min_le_left, min_le_right, min_greatest, min_fits, max_ge_left, max_ge_right, max_least, max_fits}
@@ -236,7 +236,7 @@ intersection_straight j L H =
 
 -- Of two x that do not wrap it is never refused.
 pub intersection_plain : (x y : WraparoundInterval) → is_wraparound x ≡ false → is_wraparound y ≡ false
-    → intersection x y ≡ Intersection.Single (from_interval (interval.intersection x.inner y.inner))
+    → intersection x y ≡ Ok (from_interval (interval.intersection x.inner y.inner))
 unfolding intersection
 intersection_plain x y w u = rw (w, u)
 

@@ -1,5 +1,6 @@
 -- The hypotheses of the laws can be met: by a wrapped x, one that crosses its end, one with NaN and a value between its ends, and by two boxes
 -- around a third. And what an x contains, and what calls give of −0, is computed. Assumes nothing.
+use Rattle.std.specs.Prelude.{Some, None, Ok, Err}
 use mathlib.Core.Path.{◌≡◌, refl, ap}
 use mathlib.Core.Bool.{Bool, true, false, ◌&&◌}
 use mathlib.Core.List.{List, [], ◌∷◌}
@@ -15,9 +16,8 @@ use Rattle.sedona_geometry.specs.WraparoundInterval as wraparound
 use Rattle.sedona_geometry.specs.BoundingBox.{xyzm, test_known, dimensions_contain, with_x, intersection, intersects, contains, merge_box, Doubles, EqualNumbers, bits, NoLess, Common}
 use Rattle.sedona_geometry.specs.declared.interval.Interval.{Interval}
 use Rattle.sedona_geometry.specs.declared.interval.WraparoundInterval.{WraparoundInterval}
-use Rattle.sedona_geometry.specs.declared.interval.Conversion.{Conversion}
-use Rattle.sedona_geometry.specs.declared.interval.Intersection.{Intersection}
-use Rattle.sedona_geometry.specs.declared.bounding_box.Dimension.TheVariants.{Missing, Known}
+use Rattle.sedona_geometry.specs.Error as error
+use Rattle.sedona_geometry.specs.declared.error.Refusal.TheVariants.{TwoParts, Wrapped}
 use Rattle.sedona_geometry.specs.declared.bounding_box.BoundingBox.{BoundingBox}
 use Rattle.sedona_geometry.proofs.Booleans.{holds, fails}
 use Rattle.sedona_geometry.proofs.Order.{Number, Lt, number_of_test}
@@ -157,13 +157,13 @@ across_kept = merge_contains half_known_doubles wrapped_doubles across (inr (one
 
 -- ---- boxes: a and b, of which one knows z and the other m, around k
 abbrev pub a : BoundingBox
-a = xyzm (wraparound.new (plus 0) (plus 10)) (interval.new (plus 0) (plus 10)) (Known (interval.new (plus 0) (plus 10))) Missing
+a = xyzm (wraparound.new (plus 0) (plus 10)) (interval.new (plus 0) (plus 10)) (Some (interval.new (plus 0) (plus 10))) None
 
 abbrev pub b : BoundingBox
-b = xyzm (wraparound.new (plus 1) (plus 20)) (interval.new (plus 0) (plus 20)) Missing (Known (interval.new (plus 1) (plus 4)))
+b = xyzm (wraparound.new (plus 1) (plus 20)) (interval.new (plus 0) (plus 20)) None (Some (interval.new (plus 1) (plus 4)))
 
 abbrev k : BoundingBox
-k = xyzm (wraparound.new (plus 2) (plus 3)) (interval.new (plus 2) (plus 3)) (Known (interval.new (plus 2) (plus 3))) (Known (interval.new (plus 2) (plus 3)))
+k = xyzm (wraparound.new (plus 2) (plus 3)) (interval.new (plus 2) (plus 3)) (Some (interval.new (plus 2) (plus 3))) (Some (interval.new (plus 2) (plus 3)))
 
 pub a_doubles : Doubles a
 unfolding fits round of_int
@@ -281,21 +281,21 @@ pub plus_zeros : All (λ (c : Interval × Interval). c.0 ≡ c.1) (
 unfolding add sub div neg sum round lt le eq is_nan of_int float.min_num float.max_num interval.intersects_value interval.is_empty interval.is_unmoved_by interval.expand_by interval.merge_interval interval.merge_value interval.intersection wraparound.is_wraparound wraparound.split wraparound.intersects_value wraparound.merge_non_empty wraparound.merge_interval wraparound.merge_value wraparound.expand_by
 plus_zeros = (refl, (refl, (refl, (refl, (refl, (refl, (refl, (refl, (refl, (refl, (refl, (refl, (refl, (refl, (refl, (refl, (refl, (refl, (refl, tt)))))))))))))))))))
 
-pub plus_zero_converted : wraparound.try_into_interval signed_x ≡ Conversion.Plain unsigned
+pub plus_zero_converted : wraparound.try_into_interval signed_x ≡ Ok unsigned
 unfolding sub neg sum round lt eq interval.is_empty wraparound.is_wraparound wraparound.try_into_interval
 plus_zero_converted = refl
 
 -- what a wrapped x holds of another that wraps at −0 as well
-pub plus_zero_met : wraparound.intersection (record { inner = record { lo = plus 1; hi = minus_zero } }) (record { inner = record { lo = plus 1; hi = minus_zero } }) ≡ Intersection.Single (record { inner = record { lo = plus 1; hi = float.zero } })
+pub plus_zero_met : wraparound.intersection (record { inner = record { lo = plus 1; hi = minus_zero } }) (record { inner = record { lo = plus 1; hi = minus_zero } }) ≡ Ok (record { inner = record { lo = plus 1; hi = float.zero } })
 unfolding sub neg sum round lt le eq is_nan of_int float.min_num float.max_num interval.is_empty interval.intersects_interval interval.merge_interval wraparound.is_wraparound wraparound.intersect_wrapped wraparound.intersection
 plus_zero_met = refl
 
 -- two boxes of the same numbers: made of −0, and of +0. They are canonical, so they are one, and have the same bits
 abbrev of_minus : BoundingBox
-of_minus = xyzm signed_x signed (Known signed) Missing
+of_minus = xyzm signed_x signed (Some signed) None
 
 abbrev of_plus : BoundingBox
-of_plus = xyzm unsigned_x unsigned (Known unsigned) Missing
+of_plus = xyzm unsigned_x unsigned (Some unsigned) None
 
 zeros_double : {a : BoundingBox} → a ≡ of_plus → Doubles a
 unfolding fits
@@ -306,22 +306,23 @@ unfolding eq
 equal_numbers = record { x = record { lo = refl; hi = refl }; y = record { lo = refl; hi = refl }; z = record { lo = refl; hi = refl }; m = tt }
 
 pub one_key : bits of_minus ≡ bits of_plus
-one_key = same_bits (zeros_double refl) (zeros_double refl) (xyzm_canonical signed_x signed (Known signed) Missing) (xyzm_canonical unsigned_x unsigned (Known unsigned) Missing) equal_numbers
+one_key = same_bits (zeros_double refl) (zeros_double refl) (xyzm_canonical signed_x signed (Some signed) None) (xyzm_canonical unsigned_x unsigned (Some unsigned) None) equal_numbers
 
 -- and a call that is lent −0 does what it does of +0
-pub merged_alike : merge_box (record { x = signed_x; y = signed; z = Known signed; m = Missing }) a ≡ merge_box (record { x = unsigned_x; y = unsigned; z = Known unsigned; m = Missing }) a
+pub merged_alike : merge_box (record { x = signed_x; y = signed; z = Some signed; m = None }) a ≡ merge_box (record { x = unsigned_x; y = unsigned; z = Some unsigned; m = None }) a
 merged_alike =
     boxes_merge_alike
     (record { x = record { lo = zeros; hi = zeros }; y = record { lo = zeros; hi = zeros }; z = record { lo = zeros; hi = zeros }; m = tt })
     (same_itself a)
 
 -- ---- the numbers, as numerals: 2 for an x that wraps and should not, 1 for what would have two parts, of an x and of a box
-pub two_of_wrapped : wraparound.try_into_interval (wraparound.new (plus 20) (plus 10)) ≡ Conversion.Refused 2
+pub two_of_wrapped : (wraparound.try_into_interval (wraparound.new (plus 20) (plus 10)) ≡ Err Wrapped) × (error.number Wrapped ≡ 2)
 unfolding sub neg sum round lt eq of_int interval.is_empty wraparound.is_wraparound wraparound.try_into_interval
-two_of_wrapped = refl
+two_of_wrapped = (refl, refl)
 
-pub one_of_parts : (wraparound.intersection (wraparound.new (plus 0) (plus 30)) (wraparound.new (plus 20) (plus 10)) ≡ Intersection.Refused 1)
-    × (wraparound.intersection (wraparound.new (plus 20) (plus 10)) (wraparound.new (plus 50) (plus 40)) ≡ Intersection.Refused 1)
-    × ((intersection (xyzm (wraparound.new (plus 0) (plus 30)) interval.full Missing Missing) (xyzm (wraparound.new (plus 20) (plus 10)) interval.full Missing Missing)).number ≡ 1)
+pub one_of_parts : (wraparound.intersection (wraparound.new (plus 0) (plus 30)) (wraparound.new (plus 20) (plus 10)) ≡ Err TwoParts)
+    × (wraparound.intersection (wraparound.new (plus 20) (plus 10)) (wraparound.new (plus 50) (plus 40)) ≡ Err TwoParts)
+    × (error.number TwoParts ≡ 1)
+    × ((intersection (xyzm (wraparound.new (plus 0) (plus 30)) interval.full None None) (xyzm (wraparound.new (plus 20) (plus 10)) interval.full None None)).number ≡ 1)
 unfolding sub neg sum round lt le eq is_nan of_int float.min_num float.max_num interval.is_empty interval.intersects_interval interval.merge_interval wraparound.is_wraparound wraparound.split wraparound.intersect_plain wraparound.intersect_wrapped wraparound.intersection with_x intersection
-one_of_parts = (refl, refl, refl)
+one_of_parts = (refl, refl, refl, refl)

@@ -1,4 +1,5 @@
 -- Request 6: two canonical boxes that are equal as numbers are equal, and so are their bits; and what is handed on is equal as numbers. Assumes nothing.
+use Rattle.std.specs.Prelude.{Option, Some, None}
 use mathlib.Core.Path.{◌≡◌, refl, sym, ap, ap₂, ◌∙◌}
 use mathlib.Core.Bool.{true, false}
 use lib.Dec.{T}
@@ -8,8 +9,6 @@ use Rattle.sedona_geometry.specs.Float.{plus_zero, is_minus_zero}
 use Rattle.sedona_geometry.specs.Interval as interval
 use Rattle.sedona_geometry.specs.BoundingBox.{WhereKnown, KnownAlike, Doubles, Canonical, EqualNumbers, bits}
 use Rattle.sedona_geometry.specs.declared.interval.Interval.{Interval}
-use Rattle.sedona_geometry.specs.declared.bounding_box.Dimension.{Dimension}
-use Rattle.sedona_geometry.specs.declared.bounding_box.Dimension.TheVariants.{Missing, Known}
 use Rattle.sedona_geometry.specs.declared.bounding_box.BoundingBox.{BoundingBox}
 use Rattle.sedona_geometry.proofs.Booleans.{holds}
 use Rattle.sedona_geometry.proofs.Order.{Number, ne_self, number_test}
@@ -24,11 +23,11 @@ pub same_interval : {i j : Interval} → interval.Doubles i → interval.Doubles
 same_interval {i} {j} D E c d e =
     ap₂ (λ (l h : Float). record { lo = l; hi = h }) (same_double i.lo j.lo D.lo E.lo c.lo d.lo e.lo) (same_double i.hi j.hi D.hi E.hi c.hi d.hi e.hi)
 
-same_dimension : (d e : Dimension) → WhereKnown interval.Doubles d → WhereKnown interval.Doubles e → WhereKnown interval.Canonical d → WhereKnown interval.Canonical e → KnownAlike interval.EqualNumbers d e → d ≡ e
-same_dimension Missing Missing D E c k h = refl
-same_dimension Missing (Known j) D E c k h = absurd h
-same_dimension (Known i) Missing D E c k h = absurd h
-same_dimension (Known i) (Known j) D E c k h = ap (λ (l : Interval). Known l) (same_interval D E c k h)
+same_dimension : (d e : Option Interval) → WhereKnown interval.Doubles d → WhereKnown interval.Doubles e → WhereKnown interval.Canonical d → WhereKnown interval.Canonical e → KnownAlike interval.EqualNumbers d e → d ≡ e
+same_dimension None None D E c k h = refl
+same_dimension None (Some j) D E c k h = absurd h
+same_dimension (Some i) None D E c k h = absurd h
+same_dimension (Some i) (Some j) D E c k h = ap (λ (l : Interval). Some l) (same_interval D E c k h)
 
 -- "Two such boxes without NaN whose known dimensions are equal as numbers": the same box
 pub same_box : {a b : BoundingBox}

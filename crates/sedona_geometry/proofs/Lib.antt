@@ -5,10 +5,12 @@ pub mod Booleans
 pub mod Boxes
 pub mod Canonical
 pub mod Contains
+pub mod Dimensions
 pub mod Exact
 pub mod Instances
 pub mod Keys
 pub mod MinMax
+pub mod Options
 pub mod Order
 pub mod PlusZero
 pub mod Rising

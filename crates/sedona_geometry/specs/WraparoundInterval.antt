@@ -1,15 +1,14 @@
 -- `WraparoundInterval` of interval.rs, method by method; but what an x contains is by request 5.
-use Rattle.std.specs.Prelude.{◌≡◌, Bool, true, false, not, ◌&&◌, ◌||◌, cond, T, Float}
+use Rattle.std.specs.Prelude.{◌≡◌, Bool, true, false, not, ◌&&◌, ◌||◌, cond, T, Float, Result, Ok, Err}
 use Rattle.std.specs.Float.{inf, binary64}
 use Rattle.std.specs.Float.Ieee.{add, sub, lt, le, is_nan, fits}
-use Rattle.sedona_geometry.specs.Error as error
 use Rattle.sedona_geometry.specs.Float as float
 use Rattle.sedona_geometry.specs.Interval as interval
 use Rattle.sedona_geometry.specs.declared.interval.Interval.{Interval}
 use Rattle.sedona_geometry.specs.declared.interval.WraparoundInterval.{WraparoundInterval}
 use Rattle.sedona_geometry.specs.declared.interval.Pieces.{Pieces}
-use Rattle.sedona_geometry.specs.declared.interval.Conversion.{Conversion}
-use Rattle.sedona_geometry.specs.declared.interval.Intersection.{Intersection}
+use Rattle.sedona_geometry.specs.declared.error.Refusal.{Refusal}
+use Rattle.sedona_geometry.specs.declared.error.Refusal.TheVariants.{TwoParts, Wrapped}
 
 abbrev pub new : Float → Float → WraparoundInterval
 new lo hi = record { inner = interval.new lo hi }
@@ -38,8 +37,8 @@ unfoldable pub is_wraparound : WraparoundInterval → Bool
 is_wraparound x = not (is_empty x) && lt (interval.width x.inner) float.zero
 
 -- A wrapped x is refused with 2.
-unfoldable pub try_into_interval : WraparoundInterval → Conversion
-try_into_interval x = cond (is_wraparound x) (Conversion.Refused error.wrapped) (Conversion.Plain (interval.plus_zero x.inner))
+unfoldable pub try_into_interval : WraparoundInterval → Result Interval Refusal
+try_into_interval x = cond (is_wraparound x) (Err Wrapped) (Ok (interval.plus_zero x.inner))
 
 -- The pieces of a wrapped x: (−inf, hi) and (lo, inf).
 abbrev pub wrapped_pieces : Interval → Pieces
@@ -142,14 +141,14 @@ expand_by x d =
     (excluding (add binary64 x.inner.hi d) (sub binary64 x.inner.lo d)))
 
 -- A plain x and a wrapped y: refused with 1 where x meets both pieces of y.
-unfoldable pub intersect_plain : WraparoundInterval → WraparoundInterval → Intersection
+unfoldable pub intersect_plain : WraparoundInterval → WraparoundInterval → Result WraparoundInterval Refusal
 intersect_plain x y =
     cond (interval.intersects_interval x.inner (split y).left)
-    (cond (interval.intersects_interval x.inner (split y).right) (Intersection.Refused error.two_parts)
-    (Intersection.Single (from_interval (interval.intersection x.inner (split y).left))))
+    (cond (interval.intersects_interval x.inner (split y).right) (Err TwoParts)
+    (Ok (from_interval (interval.intersection x.inner (split y).left))))
     (cond (interval.intersects_interval x.inner (split y).right)
-    (Intersection.Single (from_interval (interval.intersection x.inner (split y).right)))
-    (Intersection.Single empty))
+    (Ok (from_interval (interval.intersection x.inner (split y).right)))
+    (Ok empty))
 
 -- What a wrapped x leaves out, its ends taken in.
 abbrev pub excluded : WraparoundInterval → Interval
@@ -159,14 +158,14 @@ abbrev pub complement : Interval → WraparoundInterval
 complement i = new i.hi i.lo
 
 -- Two wrapped x: refused with 1 where what they leave out is apart.
-unfoldable pub intersect_wrapped : WraparoundInterval → WraparoundInterval → Intersection
+unfoldable pub intersect_wrapped : WraparoundInterval → WraparoundInterval → Result WraparoundInterval Refusal
 intersect_wrapped x y =
     cond (interval.intersects_interval (excluded x) (excluded y))
-    (Intersection.Single (complement (interval.merge_interval (excluded x) (excluded y))))
-    (Intersection.Refused error.two_parts)
+    (Ok (complement (interval.merge_interval (excluded x) (excluded y))))
+    (Err TwoParts)
 
-unfoldable pub intersection : WraparoundInterval → WraparoundInterval → Intersection
+unfoldable pub intersection : WraparoundInterval → WraparoundInterval → Result WraparoundInterval Refusal
 intersection x y =
     cond (is_wraparound x)
     (cond (is_wraparound y) (intersect_wrapped x y) (intersect_plain y x))
-    (cond (is_wraparound y) (intersect_plain x y) (Intersection.Single (from_interval (interval.intersection x.inner y.inner))))
+    (cond (is_wraparound y) (intersect_plain x y) (Ok (from_interval (interval.intersection x.inner y.inner))))

@@ -6,7 +6,7 @@ ghost use Rattle.sedona_geometry.specs.Interval as interval;
 ghost use Rattle.sedona_geometry.specs.WraparoundInterval as wraparound;
 ghost use Rattle.sedona_geometry.specs.Within as within;
 
-use crate::error::{TWO_PARTS, WRAPPED};
+use crate::error::Refusal;
 use crate::float::{abs, infinity, max, min, plus_zero};
 
 // The numbers from lo to hi, both ends among them. It never wraps around.
@@ -177,20 +177,6 @@ impl Pieces {
     }
 }
 
-// A plain interval, or the number that refuses it.
-#[derive(Clone, Copy)]
-pub enum Conversion {
-    Plain(Interval),
-    Refused(u32),
-}
-
-// An x, or the number that refuses it.
-#[derive(Clone, Copy)]
-pub enum Intersection {
-    Single(WraparoundInterval),
-    Refused(u32),
-}
-
 impl WraparoundInterval {
     pub fn new(lo: f64, hi: f64) -> WraparoundInterval
         ensures { result ≡ wraparound.new lo hi }
@@ -228,15 +214,13 @@ impl WraparoundInterval {
     }
 
     // The plain interval with the same ends; a wrapped x is refused with 2.
-    pub fn try_into_interval(self) -> Conversion
+    pub fn try_into_interval(self) -> Result<Interval, Refusal>
         ensures { result ≡ wraparound.try_into_interval self }
     {
-        let inner = self.inner;
         if self.is_wraparound() {
-            Conversion::Refused(WRAPPED)
-        } else {
-            Conversion::Plain(inner.plus_zero())
+            return Err(Refusal::Wrapped);
         }
+        Ok(self.inner.plus_zero())
     }
 
     // The pieces: where the x does not wrap, the interval itself and an empty one.
@@ -482,7 +466,7 @@ impl WraparoundInterval {
     }
 
     // What both hold, where it has one part; refused with 1 where it has two.
-    pub fn intersection(self, other: WraparoundInterval) -> Intersection
+    pub fn intersection(self, other: WraparoundInterval) -> Result<WraparoundInterval, Refusal>
         ensures { result ≡ wraparound.intersection self other }
     {
         if self.is_wraparound() {
@@ -494,13 +478,11 @@ impl WraparoundInterval {
         if other.is_wraparound() {
             return self.intersect_plain(other);
         }
-        Intersection::Single(WraparoundInterval::from_interval(
-            self.inner.intersection(other.inner),
-        ))
+        Ok(WraparoundInterval::from_interval(self.inner.intersection(other.inner)))
     }
 
     // A plain x and a wrapped one: one of the wrapped one's pieces can be met, not both.
-    fn intersect_plain(self, other: WraparoundInterval) -> Intersection
+    fn intersect_plain(self, other: WraparoundInterval) -> Result<WraparoundInterval, Refusal>
         ensures { result ≡ wraparound.intersect_plain self other }
     {
         let b = other.split();
@@ -508,31 +490,27 @@ impl WraparoundInterval {
         let right = self.inner.intersects_interval(b.right);
         if left {
             if right {
-                return Intersection::Refused(TWO_PARTS);
+                return Err(Refusal::TwoParts);
             }
-            return Intersection::Single(WraparoundInterval::from_interval(
-                self.inner.intersection(b.left),
-            ));
+            return Ok(WraparoundInterval::from_interval(self.inner.intersection(b.left)));
         }
         if right {
-            return Intersection::Single(WraparoundInterval::from_interval(
-                self.inner.intersection(b.right),
-            ));
+            return Ok(WraparoundInterval::from_interval(self.inner.intersection(b.right)));
         }
-        Intersection::Single(WraparoundInterval::empty())
+        Ok(WraparoundInterval::empty())
     }
 
     // Two wrapped x: what they leave out is merged, unless it is apart.
-    fn intersect_wrapped(self, other: WraparoundInterval) -> Intersection
+    fn intersect_wrapped(self, other: WraparoundInterval) -> Result<WraparoundInterval, Refusal>
         ensures { result ≡ wraparound.intersect_wrapped self other }
     {
         let excluded_self = Interval::new(self.inner.hi, self.inner.lo);
         let excluded_other = Interval::new(other.inner.hi, other.inner.lo);
         if excluded_self.intersects_interval(excluded_other) {
             let union = excluded_self.merge_interval(excluded_other);
-            Intersection::Single(WraparoundInterval::new(union.hi, union.lo))
+            Ok(WraparoundInterval::new(union.hi, union.lo))
         } else {
-            Intersection::Refused(TWO_PARTS)
+            Err(Refusal::TwoParts)
         }
     }
 }

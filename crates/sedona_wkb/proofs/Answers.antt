@@ -12,7 +12,7 @@ use Rattle.sedona_wkb.specs.Extents.{empty, enter_all}
 use Rattle.sedona_wkb.specs.Outcome.{entered}
 use Rattle.sedona_wkb.specs.Reading.{Reading, refused, found, and_then}
 use Rattle.sedona_wkb.specs.Wkb.{Coordinate, read_head, read_body, Spelled, ended, read_rest, spelled}
-use Rattle.sedona_wkb.specs.declared.bounds.WkbBounds.{WkbBounds}
+use Rattle.sedona_wkb.specs.Bounds.{WkbBounds}
 use Rattle.sedona_wkb.specs.declared.coordinates.Extents.{Extents}
 use Rattle.sedona_wkb.specs.declared.heads.Head.{Head}
 

@@ -1,8 +1,8 @@
 -- Reading what was written gives it back: numbers, coordinates, and parts behind a count. Assumes nothing.
+use Rattle.std.specs.Prelude.{Option, Some, None}
 use mathlib.Core.Path.{◌≡◌, refl}
 use mathlib.Core.Bool.{Bool, true, false}
 use mathlib.Core.List.{List, [], ◌∷◌, ◌++◌, append_assoc, flat_map}
-use mathlib.Core.Option.{Option, none, some}
 use Prim.Native.Nat.{ℕ, suc, ◌+◌, ◌^◌, ◌<◌, ◌≤◌}
 use native.Mathlib.Omega.{arith}
 use lib.Dec.{T}
@@ -52,10 +52,10 @@ module _ (low : Bool) where
 
   where_back : (a : Choice) (has : Bool) (o : Option Float) (rest : List ℕ) → DoubleWhere has o → read_where has low (encode_where low a o ++ rest) ≡ found o rest
   unfolding read_where encode_where and_then
-  where_back a true none rest h = absurd h
-  where_back a true (some v) rest h = rw (double_back a v rest h)
-  where_back a false none rest h = refl
-  where_back a false (some v) rest h = absurd h
+  where_back a true None rest h = absurd h
+  where_back a true (Some v) rest h = rw (double_back a v rest h)
+  where_back a false None rest h = refl
+  where_back a false (Some v) rest h = absurd h
 
   pub length_double : (a : Choice) (v : Float) → length (encode_double low a v) ≡ 8
   unfolding encode_double

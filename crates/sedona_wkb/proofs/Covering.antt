@@ -1,9 +1,9 @@
 -- The box accepts every coordinate that is not NaN, its x never wraps, and it has no −0. Assumes nothing.
+use Rattle.std.specs.Prelude.{Some, None, Option}
 use mathlib.Core.Path.{◌≡◌, refl, sym, subst, ◌∙◌}
 use mathlib.Core.Bool.{Bool, true, false}
 use mathlib.Core.List.{List, [], ◌∷◌}
 use mathlib.Core.Logic.{◌⊎◌, inl, inr}
-use mathlib.Core.Option.{Option, none, some}
 use Prim.Native.Nat.{ℕ}
 use lib.Ieee.{Float, nan, is_nan, lt, sub, eq}
 use Rattle.sedona_geometry.specs.Lists.{All}
@@ -13,8 +13,6 @@ use Rattle.sedona_geometry.specs.Interval.{Doubles, Accepts, merge_value}
 use Rattle.sedona_geometry.specs.WraparoundInterval as wraparound
 use Rattle.sedona_geometry.specs.BoundingBox.{Canonical, plus_zero_where_known, known_where}
 use Rattle.sedona_geometry.specs.declared.bounding_box.BoundingBox.{BoundingBox}
-use Rattle.sedona_geometry.specs.declared.bounding_box.Dimension.{Dimension}
-use Rattle.sedona_geometry.specs.declared.bounding_box.Dimension.TheVariants.{Missing, Known}
 use Rattle.sedona_geometry.specs.declared.interval.Interval.{Interval}
 use Rattle.sedona_geometry.proofs.Accepts.{merge_value_keeps, merge_value_accepts, merge_value_doubles, accepts_low_to_high, plus_accepts}
 use Rattle.sedona_geometry.proofs.Canonical.{xyzm_canonical, stays_box, refused_canonical, accepted_canonical}
@@ -34,17 +32,17 @@ use Rattle.sedona_wkb.proofs.Only.{Only, SpelledWell, spelled_only}
 
 where_keeps : (i : Interval) (o : Option Float) (v : Float) → Accepts i v → Accepts (merge_where i o) v
 unfolding merge_where
-where_keeps i none v h = h
-where_keeps i (some w) v h = merge_value_keeps w h
+where_keeps i None v h = h
+where_keeps i (Some w) v h = merge_value_keeps w h
 
-where_accepts : (i : Interval) (o : Option Float) → AcceptsWhere (Known (merge_where i o)) o
+where_accepts : (i : Interval) (o : Option Float) → AcceptsWhere (Some (merge_where i o)) o
 unfolding merge_where
-where_accepts i none = tt
-where_accepts i (some v) = λ n. merge_value_accepts i (number_of_test v n)
+where_accepts i None = tt
+where_accepts i (Some v) = λ n. merge_value_accepts i (number_of_test v n)
 
-accepts_wider : (i j : Interval) (o : Option Float) → ((v : Float) → Accepts i v → Accepts j v) → AcceptsWhere (Known i) o → AcceptsWhere (Known j) o
-accepts_wider i j none f h = tt
-accepts_wider i j (some v) f h = λ n. f v (h n)
+accepts_wider : (i j : Interval) (o : Option Float) → ((v : Float) → Accepts i v → Accepts j v) → AcceptsWhere (Some i) o → AcceptsWhere (Some j) o
+accepts_wider i j None f h = tt
+accepts_wider i j (Some v) f h = λ n. f v (h n)
 
 -- Any of the four.
 module _ (of : Extents → Interval) (what : Coordinate → Option Float) (entered : (e : Extents) (c : Coordinate) → of (enter e c) ≡ merge_where (of e) (what c)) where
@@ -53,7 +51,7 @@ module _ (of : Extents → Interval) (what : Coordinate → Option Float) (enter
   keeps [] e v h = h
   keeps (c ∷ cs) e v h = keeps cs (enter e c) v (rw (entered e c) (where_keeps (of e) (what c) v h))
 
-  accepts_all : (cs : List Coordinate) (e : Extents) → All (λ c. AcceptsWhere (Known (of (enter_all e cs))) (what c)) cs
+  accepts_all : (cs : List Coordinate) (e : Extents) → All (λ c. AcceptsWhere (Some (of (enter_all e cs))) (what c)) cs
   unfolding enter_all
   accepts_all [] e = tt
   accepts_all (c ∷ cs) e = (
@@ -61,11 +59,11 @@ module _ (of : Extents → Interval) (what : Coordinate → Option Float) (enter
     accepts_all cs (enter e c),
   )
 
-enter_x : (e : Extents) (c : Coordinate) → (enter e c).x ≡ merge_where e.x (some c.x)
+enter_x : (e : Extents) (c : Coordinate) → (enter e c).x ≡ merge_where e.x (Some c.x)
 unfolding enter merge_where
 enter_x e c = refl
 
-enter_y : (e : Extents) (c : Coordinate) → (enter e c).y ≡ merge_where e.y (some c.y)
+enter_y : (e : Extents) (c : Coordinate) → (enter e c).y ≡ merge_where e.y (Some c.y)
 unfolding enter merge_where
 enter_y e c = refl
 
@@ -115,21 +113,21 @@ not_wrapped i D (inr a) = low_to_high_plain D (accepts_low_to_high a.1)
 
 -- ---- the box of coordinates
 
-known_where_lem : (has : Bool) (i : Interval) (o : Option Float) → DoubleWhere has o → AcceptsWhere (Known i) o → AcceptsWhere (known_where has i) o
+known_where_lem : (has : Bool) (i : Interval) (o : Option Float) → DoubleWhere has o → AcceptsWhere (Some i) o → AcceptsWhere (known_where has i) o
 known_where_lem true i o d h = h
-known_where_lem false i none d h = tt
-known_where_lem false i (some v) d h = absurd d
+known_where_lem false i None d h = tt
+known_where_lem false i (Some v) d h = absurd d
 
 -- what is handed on accepts what it accepted
-plus_where : (d : Dimension) (o : Option Float) → AcceptsWhere d o → AcceptsWhere (plus_zero_where_known d) o
-plus_where d none h = tt
-plus_where Missing (some v) h = absurd h
-plus_where (Known i) (some v) h = λ n. plus_accepts i (h n)
+plus_where : (d : Option Interval) (o : Option Float) → AcceptsWhere d o → AcceptsWhere (plus_zero_where_known d) o
+plus_where d None h = tt
+plus_where None (Some v) h = absurd h
+plus_where (Some i) (Some v) h = λ n. plus_accepts i (h n)
 
 module _ (d : ℕ) (e : Extents) (D : Doubles e.x) where
   all_accepted : (cs : List Coordinate) → All (OfDims d) cs
-      → All (λ c. AcceptsWhere (Known e.x) (some c.x)) cs → All (λ c. AcceptsWhere (Known e.y) (some c.y)) cs
-      → All (λ c. AcceptsWhere (Known e.z) c.z) cs → All (λ c. AcceptsWhere (Known e.m) c.m) cs
+      → All (λ c. AcceptsWhere (Some e.x) (Some c.x)) cs → All (λ c. AcceptsWhere (Some e.y) (Some c.y)) cs
+      → All (λ c. AcceptsWhere (Some e.z) c.z) cs → All (λ c. AcceptsWhere (Some e.m) c.m) cs
       → All (AcceptsCoordinate (box_of d e)) cs
   unfolding box_of
   all_accepted [] h x y z m = tt
@@ -150,8 +148,8 @@ module _ (d : ℕ) (cs : List Coordinate) (h : All (OfDims d) cs) where
   box_accepts : All (AcceptsCoordinate (box_of d (enter_all empty cs))) cs
   box_accepts =
       all_accepted d (enter_all empty cs) plain_x.doubles cs h
-      (accepts_all (λ e. e.x) (λ c. some c.x) enter_x cs empty)
-      (accepts_all (λ e. e.y) (λ c. some c.y) enter_y cs empty)
+      (accepts_all (λ e. e.x) (λ c. Some c.x) enter_x cs empty)
+      (accepts_all (λ e. e.y) (λ c. Some c.y) enter_y cs empty)
       (accepts_all (λ e. e.z) (λ c. c.z) enter_z cs empty)
       (accepts_all (λ e. e.m) (λ c. c.m) enter_m cs empty)
 

@@ -1,7 +1,7 @@
 -- What is written is bytes. Assumes nothing.
+use Rattle.std.specs.Prelude.{Option, Some, None}
 use mathlib.Core.Bool.{Bool, true, false, cond}
 use mathlib.Core.List.{List, [], ◌∷◌, ◌++◌}
-use mathlib.Core.Option.{Option, none, some}
 use Prim.Native.Nat.{ℕ, suc, ◌+◌, ◌*◌, ◌<◌}
 use native.Mathlib.Omega.{arith}
 use lib.Ieee.{Float}
@@ -29,8 +29,8 @@ double_bytes low a v = number_bytes low 8 (bits_of a v)
 
 where_bytes : (low : Bool) (a : Choice) (o : Option Float) → Are (encode_where low a o)
 unfolding encode_where
-where_bytes low a none = record { all = tt }
-where_bytes low a (some v) = double_bytes low a v
+where_bytes low a None = record { all = tt }
+where_bytes low a (Some v) = double_bytes low a v
 
 coordinate_bytes : (low : Bool) (by : Choices) (c : Coordinate) → Are (encode_coordinate low by c)
 unfolding encode_coordinate

@@ -1,8 +1,8 @@
 -- Geometries that meet every hypothesis of the theorems, and bytes. Assumes nothing.
+use Rattle.std.specs.Prelude.{Some, None}
 use mathlib.Core.Path.{◌≡◌, refl, sym, ap, subst}
 use mathlib.Core.Bool.{Bool, true, false, not, ◌&&◌, cond, and-eq-true_iff}
 use mathlib.Core.List.{List, [], ◌∷◌, ◌++◌, flat_map}
-use mathlib.Core.Option.{none, some}
 use Prim.Native.Nat.{ℕ, ◌^◌, ◌<◌}
 use native.Mathlib.Omega.{arith}
 use lib.Dec.{T, eqb, ltb}
@@ -14,14 +14,13 @@ use Rattle.sedona_geometry.specs.Lists.{All}
 use Rattle.sedona_geometry.specs.Float as float
 use Rattle.sedona_geometry.specs.Interval as interval
 use Rattle.sedona_geometry.specs.Types as types
-use Rattle.sedona_geometry.specs.declared.bounding_box.Dimension.TheVariants.{Missing, Known}
 use Rattle.sedona_wkb.specs.Extents.{merge_where, enter, enter_all}
 use Rattle.sedona_wkb.specs.Bounds.{box_of, types_of, refusal, answer, wkb_bounds, box_from, AcceptsCoordinate}
 use Rattle.sedona_wkb.specs.Geometry.{point, line_string, polygon, Geometry, one, many, collection, nil, cons, coordinates_of, coordinates, depth, kind_of_shape, kind_of, OfDims, Place, NanBits, Choices, encode_number, bits_of, encode_double, encode_where, encode_coordinate, encode_from, encode_counted, encode_content, encode_head, encode_one, encode, quiet, plain, Writable, Writing}
 use Rattle.sedona_wkb.specs.Numbers.{value_of, bytes_of, ordered}
 use Rattle.sedona_wkb.specs.Reading.{Reading, found, and_then, number, several}
 use Rattle.sedona_wkb.specs.Wkb.{Coordinate, Spelled, is_type, is_part, tested, read_head, read_part_head, read_double, read_where, read_coordinate, counted, read_point, read_one, within, by_kind, read_body, ended, read_rest, spelled}
-use Rattle.sedona_wkb.specs.declared.bounds.WkbBounds.{WkbBounds}
+use Rattle.sedona_wkb.specs.Bounds.{WkbBounds}
 use Rattle.sedona_wkb.proofs.Accepted.{accepted_exactly_where}
 use Rattle.sedona_wkb.proofs.Encoded.{encode_bytes}
 use Rattle.sedona_wkb.proofs.ThereAndBack.{as_spelled, there_and_back, either_order, accepts_every_written}
@@ -44,7 +43,7 @@ high_first place = record { low = false; nan = quiet }
 -- ---- a collection with mixed byte orders: a Point, a MultiPoint of two, and a collection of a LineString
 
 abbrev xy : ℕ → ℕ → Coordinate
-xy x y = record { x = num x; y = num y; z = none; m = none }
+xy x y = record { x = num x; y = num y; z = None; m = None }
 
 of_xy : (x y : ℕ) → T (fits binary64 (num x)) → T (fits binary64 (num y)) → OfDims 0 (xy x y)
 of_xy x y p q = record { x = p; y = q; z = tt; m = tt }
@@ -78,7 +77,7 @@ mixed_accepted = accepts_every_written alternating 0 mixed mixed_writable
 -- ---- a MultiPolygon ZM, high byte first, of a polygon with two rings
 
 abbrev xyzm : ℕ → ℕ → ℕ → ℕ → Coordinate
-xyzm x y z m = record { x = num x; y = num y; z = some (num z); m = some (num m) }
+xyzm x y z m = record { x = num x; y = num y; z = Some (num z); m = Some (num m) }
 
 abbrev polygons : Geometry
 polygons = many polygon (((xyzm 1 3 5 7 ∷ xyzm 9 11 13 15 ∷ []) ∷ (xyzm 17 19 21 23 ∷ []) ∷ []) ∷ [])
@@ -113,7 +112,7 @@ unit_read = refl
 abbrev probe : List ℕ
 probe = 0 ∷ 0 ∷ 0 ∷ 7 ∷ 209 ∷ 63 ∷ 240 ∷ 0 ∷ 0 ∷ 0 ∷ 0 ∷ 0 ∷ 0 ∷ 63 ∷ 240 ∷ 0 ∷ 0 ∷ 0 ∷ 0 ∷ 0 ∷ 0 ∷ 63 ∷ 240 ∷ 0 ∷ 0 ∷ 0 ∷ 0 ∷ 0 ∷ 0 ∷ []
 
-pub probe_read : spelled probe ≡ found (as_spelled 2 (one point (record { x = num 1; y = num 1; z = none; m = some (num 1) }))) []
+pub probe_read : spelled probe ≡ found (as_spelled 2 (one point (record { x = num 1; y = num 1; z = None; m = Some (num 1) }))) []
 unfolding spelled read_head read_rest ended read_body by_kind read_one read_point read_coordinate read_double read_where number ordered value_of and_then tested is_type of_bits of_fields odd coordinates coordinates_of kind_of kind_of_shape
 probe_read = refl
 
@@ -125,15 +124,15 @@ probe_type = rw probe_read
 abbrev signed : List ℕ
 signed = 1 ∷ 1 ∷ 0 ∷ 0 ∷ 0 ∷ 0 ∷ 0 ∷ 0 ∷ 0 ∷ 0 ∷ 0 ∷ 0 ∷ 128 ∷ 0 ∷ 0 ∷ 0 ∷ 0 ∷ 0 ∷ 0 ∷ 240 ∷ 63 ∷ []
 
-signed_read : spelled signed ≡ found (as_spelled 0 (one point (record { x = fin true 0 (pos 0); y = num 1; z = none; m = none }))) []
+signed_read : spelled signed ≡ found (as_spelled 0 (one point (record { x = fin true 0 (pos 0); y = num 1; z = None; m = None }))) []
 unfolding spelled read_head read_rest ended read_body by_kind read_one read_point read_coordinate read_double read_where number ordered value_of and_then tested is_type of_bits of_fields odd coordinates coordinates_of kind_of kind_of_shape
 signed_read = refl
 
 pub signed_box : box_from signed ≡ record {
   x = record { inner = record { lo = fin false 0 (pos 0); hi = fin false 0 (pos 0) } };
   y = record { lo = num 1; hi = num 1 };
-  z = Missing;
-  m = Missing;
+  z = None;
+  m = None;
 }
 unfolding answer box_of enter_all enter merge_where interval.merge_value float.min_num float.max_num is_nan lt coordinates coordinates_of
 signed_box = ap (λ (r : Reading Spelled). (answer r).numbered.bounds) signed_read
@@ -157,7 +156,7 @@ high_zm =
     64 ∷ 20 ∷ 0 ∷ 0 ∷ 0 ∷ 0 ∷ 0 ∷ 0 ∷ []
 
 abbrev zm : Coordinate
-zm = record { x = num 1; y = num 7; z = some (num 3); m = some (num 5) }
+zm = record { x = num 1; y = num 7; z = Some (num 3); m = Some (num 5) }
 
 pub zm_read : All (λ s. spelled s ≡ found (record { kind = 1; dims = 3; coordinates = zm ∷ [] }) []) (low_zm ∷ high_zm ∷ [])
 unfolding spelled read_head read_rest ended read_body by_kind read_one read_point read_coordinate read_double read_where number ordered value_of and_then tested is_type of_bits of_fields odd
@@ -173,8 +172,8 @@ pub zm_answer : All (λ s. wkb_bounds s ≡ record {
     bounds = record {
       x = record { inner = record { lo = num 1; hi = num 1 } };
       y = record { lo = num 7; hi = num 7 };
-      z = Known (record { lo = num 3; hi = num 3 });
-      m = Known (record { lo = num 5; hi = num 5 });
+      z = Some (record { lo = num 3; hi = num 3 });
+      m = Some (record { lo = num 5; hi = num 5 });
     };
   };
   types = types.from_bits (2 ^ 25);
@@ -186,7 +185,7 @@ zm_answer = (ap answer zm_read.0, (ap answer zm_read.1.0, tt))
 abbrev empty : List ℕ
 empty = 1 ∷ 1 ∷ 0 ∷ 0 ∷ 0 ∷ 1 ∷ 0 ∷ 0 ∷ 0 ∷ 0 ∷ 0 ∷ 240 ∷ 255 ∷ 0 ∷ 0 ∷ 0 ∷ 0 ∷ 0 ∷ 0 ∷ 248 ∷ 127 ∷ []
 
-empty_read : spelled empty ≡ found (record { kind = 1; dims = 0; coordinates = record { x = nan; y = nan; z = none; m = none } ∷ [] }) []
+empty_read : spelled empty ≡ found (record { kind = 1; dims = 0; coordinates = record { x = nan; y = nan; z = None; m = None } ∷ [] }) []
 unfolding spelled read_head read_rest ended read_body by_kind read_one read_point read_coordinate read_double read_where number ordered value_of and_then tested is_type of_bits of_fields odd
 empty_read = refl
 
@@ -196,8 +195,8 @@ pub empty_answer : wkb_bounds empty ≡ record {
     bounds = record {
       x = record { inner = record { lo = inf false; hi = inf true } };
       y = record { lo = inf false; hi = inf true };
-      z = Missing;
-      m = Missing;
+      z = None;
+      m = None;
     };
   };
   types = types.from_bits (2 ^ 1);
@@ -278,7 +277,7 @@ negative = record { bits = 0xfff0000000000001; eight = omega arith; is = refl }
 abbrev x_negative : Choices
 x_negative place = record { low = true; nan = cond (eqb (get_or place 0 0) 0) negative quiet }
 
-pub empty_written : encode x_negative 0 (one point (record { x = nan; y = nan; z = none; m = none })) ≡ empty
+pub empty_written : encode x_negative 0 (one point (record { x = nan; y = nan; z = None; m = None })) ≡ empty
 unfolding encode encode_one encode_head encode_number ordered bytes_of encode_content encode_coordinate encode_double encode_where bits_of is_nan kind_of_shape negative quiet
 empty_written = refl
 

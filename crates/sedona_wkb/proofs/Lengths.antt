@@ -1,8 +1,8 @@
 -- What is written of a geometry is as long by any choices. Assumes nothing.
+use Rattle.std.specs.Prelude.{Option, Some, None}
 use mathlib.Core.Path.{◌≡◌, refl, sym, ◌∙◌}
 use mathlib.Core.Bool.{Bool}
 use mathlib.Core.List.{List, [], ◌∷◌}
-use mathlib.Core.Option.{Option, none, some}
 use Prim.Native.Nat.{ℕ, suc, ◌+◌, ◌*◌}
 use lib.Ieee.{Float}
 use lib.ListN.{length, length-append}
@@ -12,8 +12,8 @@ use Rattle.sedona_wkb.proofs.Back.{length_number, length_double}
 
 length_where : (low low' : Bool) (a a' : Choice) (o : Option Float) → length (encode_where low a o) ≡ length (encode_where low' a' o)
 unfolding encode_where
-length_where low low' a a' none = refl
-length_where low low' a a' (some v) = length_double low a v ∙ sym (length_double low' a' v)
+length_where low low' a a' None = refl
+length_where low low' a a' (Some v) = length_double low a v ∙ sym (length_double low' a' v)
 
 length_coordinate : (low low' : Bool) (by by' : Choices) (c : Coordinate) → length (encode_coordinate low by c) ≡ length (encode_coordinate low' by' c)
 unfolding encode_coordinate

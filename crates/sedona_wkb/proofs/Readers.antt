@@ -1,8 +1,8 @@
 -- What the readers find from a place on, as the code asks for it: where the bytes are there, and where they are not. Assumes nothing.
+use Rattle.std.specs.Prelude.{Some, None, Result, Ok, Err}
 use mathlib.Core.Path.{◌≡◌, refl, sym, ap, ◌∙◌}
 use mathlib.Core.Bool.{Bool, true, false}
 use mathlib.Core.List.{List, [], ◌∷◌, ◌++◌}
-use mathlib.Core.Option.{none, some}
 use Prim.Native.Nat.{ℕ, zero, suc, ◌+◌, ◌*◌, ◌-◌, ◌<◌, ◌≤◌}
 use native.Mathlib.Nat.{add-zero, zero-mul, suc-mul}
 use native.Mathlib.Omega.{arith}
@@ -19,8 +19,7 @@ use Rattle.sedona_wkb.specs.Places.{number_at, double_at, double_where, width_wh
 use Rattle.sedona_wkb.specs.Reading.{Reading, Reader, refused, found, and_then, ◌>>=◌, give, number, several}
 use Rattle.sedona_wkb.specs.Wkb.{Coordinate, head_of, is_type, is_part, tested, read_head, read_part_head, has_z, has_m, read_double, read_where, read_coordinate, counted, read_point, read_line, read_one, within, read_many, by_kind, read_body, read_collection}
 use Rattle.sedona_wkb.specs.declared.coordinates.Extents.{Extents}
-use Rattle.sedona_wkb.specs.declared.coordinates.Reached.{Reached}
-use Rattle.sedona_wkb.specs.declared.coordinates.Reached.TheVariants.{At, Refused}
+use Rattle.sedona_wkb.specs.declared.error.Refusal.{Refusal}
 use Rattle.sedona_wkb.specs.declared.heads.Head.{Head}
 
 -- ---- readers that take as many bytes whatever these are
@@ -73,8 +72,8 @@ double_taken low s at =
 
 where_taken : (has low : Bool) (s : List ℕ) (at : ℕ) → Takes s at (width_where has) (read_where has low) (double_where has low s at)
 unfolding read_where double_where width_where
-where_taken true low s at = takes_made s at 8 (read_double low) (double_at low s at) some (double_taken low s at)
-where_taken false low s at = takes_none s at none
+where_taken true low s at = takes_made s at 8 (read_double low) (double_at low s at) Some (double_taken low s at)
+where_taken false low s at = takes_none s at None
 
 module _ (h : Head) (s : List ℕ) where
   coordinate_taken : (at : ℕ) → Takes s at (width h.dims) (read_coordinate h) (coordinate_at h s at)
@@ -177,23 +176,31 @@ module _ (p : Reader (List Coordinate)) (n : ℕ) (e : Extents) where
   part_refused (found xs u) k q = absurd (let z : ◌≡◌ {A = ℕ} 0 1 = cc in omega arith)
 
 -- A turn of a loop over parts: n are left, and the code reads the one at a place.
-module _ (s : List ℕ) (p : Reader (List Coordinate)) (at : ℕ) (e : Extents) (r : Reached) (q : entered e (p (drop at s)) ≡ reached s r) where
-  pub turn : (n : ℕ) → 0 < n → (f : Extents) (to : ℕ) → r ≡ At to f → entered e (several n p (drop at s)) ≡ entered f (several (n - 1) p (drop to s))
+module _ (s : List ℕ) (p : Reader (List Coordinate)) (at : ℕ) (e : Extents) (r : Result (ℕ × Extents) Refusal) (q : entered e (p (drop at s)) ≡ reached s r) where
+  taken : (n : ℕ) → 0 < n → (f : Extents) (to : ℕ) → r ≡ Ok (to, f) → entered e (several n p (drop at s)) ≡ entered f (several (n - 1) p (drop to s))
   unfolding several reached
-  turn zero h f to g = absurd (omega arith)
-  turn (suc n) h f to g =
+  taken zero h f to g = absurd (omega arith)
+  taken (suc n) h f to g =
       let m : suc n - 1 ≡ n = omega arith in
       rw m (part_found p n e (p (drop at s)) f (drop to s) (q ∙ ap (reached s) g))
 
-  pub turn_refused : (n : ℕ) → 0 < n → (k : ℕ) → r ≡ Refused k → entered e (several n p (drop at s)) ≡ reached s r
-  unfolding several reached
-  turn_refused zero h k g = absurd (omega arith)
-  turn_refused (suc n) h k g = part_refused p n e (p (drop at s)) k (q ∙ ap (reached s) g) ∙ sym (ap (reached s) g)
+  pub turn : (count part : ℕ) → part < count → (f : Extents) (to : ℕ) → r ≡ Ok (to, f) → entered e (several (count - part) p (drop at s)) ≡ entered f (several (count - (part + 1)) p (drop to s))
+  turn count part h f to g =
+      let m : count - (part + 1) ≡ count - part - 1 = omega arith in
+      rw m (taken (count - part) (omega (arith, h)) f to g)
 
-pub no_turn : (s : List ℕ) (p : Reader (List Coordinate)) (e : Extents) (n : ℕ) → n ≤ 0 → entered e (several n p s) ≡ found e s
+  taken_refused : (n : ℕ) → 0 < n → (k : Refusal) → r ≡ Err k → entered e (several n p (drop at s)) ≡ reached s r
+  unfolding several reached
+  taken_refused zero h k g = absurd (omega arith)
+  taken_refused (suc n) h k g = part_refused p n e (p (drop at s)) (error.number k) (q ∙ ap (reached s) g) ∙ sym (ap (reached s) g)
+
+  pub turn_refused : (count part : ℕ) → part < count → (k : Refusal) → r ≡ Err k → entered e (several (count - part) p (drop at s)) ≡ refused (error.number k)
+  unfolding reached
+  turn_refused count part h k g = taken_refused (count - part) (omega (arith, h)) k g ∙ ap (reached s) g
+
+pub no_turn : (s : List ℕ) (p : Reader (List Coordinate)) (e : Extents) (count part : ℕ) → count ≤ part → entered e (several (count - part) p s) ≡ found e s
 unfolding several entered enter_all
-no_turn s p e zero h = refl
-no_turn s p e (suc n) h = absurd (omega arith)
+no_turn s p e count part h = let m : count - part ≡ 0 = omega arith in rw m
 
 -- ---- heads
 

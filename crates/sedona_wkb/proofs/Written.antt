@@ -1,8 +1,8 @@
 -- What is found was written so: numbers, heads, coordinates, and parts behind a count. Assumes nothing.
+use Rattle.std.specs.Prelude.{Option, Some, None}
 use mathlib.Core.Path.{◌≡◌, refl, sym, ap, subst, ◌∙◌}
 use mathlib.Core.Bool.{Bool, true, false, cond}
 use mathlib.Core.List.{List, [], ◌∷◌, ◌++◌, append_assoc, append-nil, flat_map}
-use mathlib.Core.Option.{Option, none, some}
 use Prim.Native.Nat.{ℕ, zero, suc, ◌+◌, ◌*◌, ◌%◌, ◌/◌, ◌^◌, ◌<◌, ◌≤◌}
 use native.Mathlib.Omega.{arith}
 use lib.Dec.{eqb, ltb}
@@ -177,8 +177,8 @@ Where low o front = (a : Choice) × (front ≡ encode_where low a o)
 
 where_written : (has low : Bool) → Reads (read_where has low) (Where low)
 unfolding read_where encode_where
-where_written true low = reads_then (Where low) (Double low) (read_double low) _ (double_written low) (λ v front i. reads_end (Where low) (some v) front i)
-where_written false low = reads_none (Where low) none (plain [], refl)
+where_written true low = reads_then (Where low) (Double low) (read_double low) _ (double_written low) (λ v front i. reads_end (Where low) (Some v) front i)
+where_written false low = reads_none (Where low) None (plain [], refl)
 
 -- Choices by those of each part, and these by those of the first and of the others.
 abbrev inside : (ℕ → Choices) → Choices

@@ -1,6 +1,5 @@
 -- Coordinates as intervals: each enters by `update_value`, "NaN passed over".
-use Rattle.std.specs.Prelude.{List, [], ◌∷◌, Float}
-use Rattle.std.proofs.Math.Option.{Option, none, some}
+use Rattle.std.specs.Prelude.{List, [], ◌∷◌, Float, Option, Some, None}
 use Rattle.sedona_geometry.specs.Interval as interval
 use Rattle.sedona_geometry.specs.Interval.{merge_value}
 use Rattle.sedona_geometry.specs.declared.interval.Interval.{Interval}
@@ -12,8 +11,8 @@ empty = record { x = interval.empty; y = interval.empty; z = interval.empty; m =
 
 -- A z or an m, where there is one.
 unfoldable pub merge_where : Interval → Option Float → Interval
-merge_where i none = i
-merge_where i (some v) = merge_value i v
+merge_where i None = i
+merge_where i (Some v) = merge_value i v
 
 unfoldable pub enter : Extents → Coordinate → Extents
 enter e c =

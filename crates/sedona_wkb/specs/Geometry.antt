@@ -1,7 +1,6 @@
 -- Geometries, apart from any bytes; and the bytes that spell them, with a byte order chosen for each part and bits for each NaN.
-use Rattle.std.specs.Prelude.{◌≡◌, refl, Bool, true, false, cond, ℕ, suc, ◌+◌, ◌*◌, ◌^◌, ◌<◌, ◌≤◌, max, T, Float, length}
+use Rattle.std.specs.Prelude.{◌≡◌, refl, Bool, true, false, cond, ℕ, suc, ◌+◌, ◌*◌, ◌^◌, ◌<◌, ◌≤◌, max, T, Float, length, Option, Some, None}
 use mathlib.Core.List.{List, [], ◌∷◌, ◌++◌, flat_map}
-use Rattle.std.proofs.Math.Option.{Option, none, some}
 use Rattle.std.proofs.Common.{arith}
 use Rattle.std.specs.Float.{nan, binary64}
 use Rattle.std.specs.Float.Ieee.{is_nan, of_bits, to_bits, fits}
@@ -79,10 +78,10 @@ how_many (cons g gs) = suc (how_many gs)
 
 -- A z or an m that is there where the dimensions have it, and is a double.
 abbrev pub DoubleWhere : Bool → Option Float → Type 0
-DoubleWhere true none = ⊥
-DoubleWhere true (some v) = T (fits binary64 v)
-DoubleWhere false none = Unit {0}
-DoubleWhere false (some v) = ⊥
+DoubleWhere true None = ⊥
+DoubleWhere true (Some v) = T (fits binary64 v)
+DoubleWhere false None = Unit {0}
+DoubleWhere false (Some v) = ⊥
 
 -- A coordinate of doubles in the dimensions d.
 pub record OfDims (d : ℕ) (c : Coordinate) : Type 0 where
@@ -128,8 +127,8 @@ unfoldable pub encode_double : Bool → Choice → Float → List ℕ
 encode_double low choice v = encode_number low 8 (bits_of choice v)
 
 unfoldable pub encode_where : Bool → Choice → Option Float → List ℕ
-encode_where low choice none = []
-encode_where low choice (some v) = encode_double low choice v
+encode_where low choice None = []
+encode_where low choice (Some v) = encode_double low choice v
 
 unfoldable pub encode_coordinate : Bool → Choices → Coordinate → List ℕ
 encode_coordinate low by c =

@@ -1,7 +1,6 @@
 -- What contracts of private functions alone cite. Who reads the calls and the theorems need not read it: none of them rests on it.
 -- Here: what stands at a place of a list of bytes, as the code asks for it. (What bytes spell is Wkb's to say.)
-use Rattle.std.specs.Prelude.{Bool, true, false, cond, List, [], ◌∷◌, ℕ, zero, suc, ◌+◌, Float, take, drop}
-use Rattle.std.proofs.Math.Option.{Option, none, some}
+use Rattle.std.specs.Prelude.{Bool, true, false, cond, List, [], ◌∷◌, ℕ, zero, suc, ◌+◌, Float, take, drop, Option, Some, None}
 use Rattle.std.specs.Float.{binary64}
 use Rattle.std.specs.Float.Ieee.{of_bits}
 use Rattle.sedona_wkb.specs.Numbers.{value_of, ordered}
@@ -18,8 +17,8 @@ double_at low s at = of_bits binary64 (number_at low 8 s at)
 
 -- A z or an m, where there is one.
 unfoldable pub double_where : Bool → Bool → List ℕ → ℕ → Option Float
-double_where true low s at = some (double_at low s at)
-double_where false low s at = none
+double_where true low s at = Some (double_at low s at)
+double_where false low s at = None
 
 -- How many bytes it has, and how many a coordinate.
 unfoldable pub width_where : Bool → ℕ

@@ -1,6 +1,5 @@
 -- What a list of bytes spells, after request 4 of 02: well-known binary as OGC 06-103r4 has it, with the ISO type codes.
-use Rattle.std.specs.Prelude.{Bool, true, false, cond, ◌&&◌, ◌||◌, List, [], ◌∷◌, ℕ, zero, suc, ◌+◌, ◌/◌, ◌%◌, eqb, leb, ltb, Float, length}
-use Rattle.std.proofs.Math.Option.{Option, none, some}
+use Rattle.std.specs.Prelude.{Bool, true, false, cond, ◌&&◌, ◌||◌, List, [], ◌∷◌, ℕ, zero, suc, ◌+◌, ◌/◌, ◌%◌, eqb, leb, ltb, Float, length, Option, Some, None}
 use Rattle.std.specs.Float.{binary64}
 use Rattle.std.specs.Float.Ieee.{of_bits}
 use Rattle.sedona_wkb.specs.Error as error
@@ -63,8 +62,8 @@ read_double low = do
 unfoldable pub read_where : Bool → Bool → Reader (Option Float)
 read_where true low = do
   v ← read_double low
-  give (some v)
-read_where false low = give none
+  give (Some v)
+read_where false low = give None
 
 unfoldable pub read_coordinate : Head → Reader Coordinate
 read_coordinate h = do

@@ -5,7 +5,7 @@ ghost use Rattle.sedona_wkb.specs.Outcome as outcome;
 ghost use Rattle.sedona_wkb.specs.Places as places;
 ghost use Rattle.sedona_wkb.specs.Wkb as wkb;
 
-use crate::error::WKB_LENGTH;
+use crate::error::Refusal;
 use crate::heads::{Head, LINE_STRING, POINT};
 use crate::numbers::{double_at, is_short, word_at};
 use sedona_geometry::interval::Interval;
@@ -19,12 +19,8 @@ pub struct Extents {
     pub m: Interval,
 }
 
-// Where what was read ends, and the extents with it; or the number that refuses it.
-#[derive(Clone, Copy)]
-pub enum Reached {
-    At(usize, Extents),
-    Refused(u32),
-}
+// Where what was read ends, and the extents with it.
+pub type Reached = (usize, Extents);
 
 pub(crate) fn has_z(dims: u32) -> bool
     ensures { result ≡ wkb.has_z dims }
@@ -86,67 +82,59 @@ fn enter_all(bytes: &[u8], at: usize, count: u32, head: Head, e: Extents) -> Ext
     ensures { result ≡ extents.enter_all e (places.coordinates_at head bytes.now at count) }
 {
     let width = width(head.dims);
-    let mut left = count;
     let mut place = at;
     let mut entered = e;
-    while 0 < left {
+    for taken in 0..count {
         entered = enter(bytes, place, head, entered);
         place += width;
-        left -= 1;
     }
     entered
 }
 
-fn read_point(bytes: &[u8], at: usize, head: Head, e: Extents) -> Reached
+fn read_point(bytes: &[u8], at: usize, head: Head, e: Extents) -> Result<Reached, Refusal>
     ensures { outcome.entered e (wkb.read_point head (drop at bytes.now)) ≡ outcome.reached bytes.now result }
 {
     let width = width(head.dims);
     if is_short(bytes, at, width) {
-        return Reached::Refused(WKB_LENGTH);
+        return Err(Refusal::Length);
     }
-    Reached::At(at + width, enter_all(bytes, at, 1, head, e))
+    Ok((at + width, enter_all(bytes, at, 1, head, e)))
 }
 
 // A count, and points. All their bytes are there, or it is short.
-fn read_line(bytes: &[u8], at: usize, head: Head, e: Extents) -> Reached
+fn read_line(bytes: &[u8], at: usize, head: Head, e: Extents) -> Result<Reached, Refusal>
     ensures { outcome.entered e (wkb.read_line head (drop at bytes.now)) ≡ outcome.reached bytes.now result }
 {
     if is_short(bytes, at, 4) {
-        return Reached::Refused(WKB_LENGTH);
+        return Err(Refusal::Length);
     }
     let count = word_at(bytes, at, head.low);
     let first = at + 4;
     let length = count as usize * width(head.dims);
     if is_short(bytes, first, length) {
-        return Reached::Refused(WKB_LENGTH);
+        return Err(Refusal::Length);
     }
-    Reached::At(first + length, enter_all(bytes, first, count, head, e))
+    Ok((first + length, enter_all(bytes, first, count, head, e)))
 }
 
 // A count, and lines: the rings.
-fn read_polygon(bytes: &[u8], at: usize, head: Head, e: Extents) -> Reached
+fn read_polygon(bytes: &[u8], at: usize, head: Head, e: Extents) -> Result<Reached, Refusal>
     ensures { outcome.entered e (wkb.read_polygon head (drop at bytes.now)) ≡ outcome.reached bytes.now result }
 {
     if is_short(bytes, at, 4) {
-        return Reached::Refused(WKB_LENGTH);
+        return Err(Refusal::Length);
     }
-    let mut left = word_at(bytes, at, head.low);
+    let count = word_at(bytes, at, head.low);
     let mut end = at + 4;
     let mut entered = e;
-    while 0 < left {
-        let reached = read_line(bytes, end, head, entered);
-        let Reached::At(next, more) = reached else {
-            return reached;
-        };
-        end = next;
-        entered = more;
-        left -= 1;
+    for part in 0..count {
+        (end, entered) = read_line(bytes, end, head, entered)?;
     }
-    Reached::At(end, entered)
+    Ok((end, entered))
 }
 
 // What follows a head of a kind of one.
-pub(crate) fn read_one(bytes: &[u8], at: usize, head: Head, e: Extents) -> Reached
+pub(crate) fn read_one(bytes: &[u8], at: usize, head: Head, e: Extents) -> Result<Reached, Refusal>
     ensures { outcome.entered e (wkb.read_one head (drop at bytes.now)) ≡ outcome.reached bytes.now result }
 {
     if head.kind == POINT {

@@ -4,46 +4,43 @@ ghost use Rattle.sedona_wkb.specs.Outcome as outcome;
 ghost use Rattle.sedona_wkb.specs.Wkb as wkb;
 
 use crate::coordinates::{Extents, Reached, read_one};
-use crate::error::{WKB_DEPTH, WKB_LENGTH};
-use crate::heads::{COLLECTION, Head, Headed, POLYGON, read_part_head};
+use crate::error::Refusal;
+use crate::heads::{COLLECTION, Head, POLYGON, read_part_head};
 use crate::numbers::{is_short, word_at};
 
 // One of many.
-fn read_member(bytes: &[u8], at: usize, parent: Head, e: Extents) -> Reached
+fn read_member(bytes: &[u8], at: usize, parent: Head, e: Extents) -> Result<Reached, Refusal>
     ensures { outcome.entered e (wkb.read_member parent (drop at bytes.now)) ≡ outcome.reached bytes.now result }
 {
-    let headed = read_part_head(bytes, at, parent);
-    match headed {
-        Headed::Refused(number) => Reached::Refused(number),
-        Headed::At(head, next) => read_one(bytes, next, head, e),
-    }
+    let (head, next) = read_part_head(bytes, at, parent)?;
+    read_one(bytes, next, head, e)
 }
 
 // A count, and as many members.
-fn read_many(bytes: &[u8], at: usize, head: Head, e: Extents) -> Reached
+fn read_many(bytes: &[u8], at: usize, head: Head, e: Extents) -> Result<Reached, Refusal>
     ensures { outcome.entered e (wkb.read_many head (drop at bytes.now)) ≡ outcome.reached bytes.now result }
 {
     if is_short(bytes, at, 4) {
-        return Reached::Refused(WKB_LENGTH);
+        return Err(Refusal::Length);
     }
-    let mut left = word_at(bytes, at, head.low);
+    let count = word_at(bytes, at, head.low);
     let mut end = at + 4;
     let mut entered = e;
-    while 0 < left {
-        let reached = read_member(bytes, end, head, entered);
-        let Reached::At(next, more) = reached else {
-            return reached;
-        };
-        end = next;
-        entered = more;
-        left -= 1;
+    for part in 0..count {
+        (end, entered) = read_member(bytes, end, head, entered)?;
     }
-    Reached::At(end, entered)
+    Ok((end, entered))
 }
 
 // What follows a head, where so many collections may still open.
 #[cycle(bodies)]
-pub(crate) fn read_body(bytes: &[u8], at: usize, head: Head, room: u32, e: Extents) -> Reached
+pub(crate) fn read_body(
+    bytes: &[u8],
+    at: usize,
+    head: Head,
+    room: u32,
+    e: Extents,
+) -> Result<Reached, Refusal>
     ensures { outcome.entered e (wkb.read_body room head (drop at bytes.now)) ≡ outcome.reached bytes.now result }
 {
     if head.kind <= POLYGON {
@@ -53,42 +50,45 @@ pub(crate) fn read_body(bytes: &[u8], at: usize, head: Head, room: u32, e: Exten
         return read_many(bytes, at, head, e);
     }
     if room == 0 {
-        return Reached::Refused(WKB_DEPTH);
+        return Err(Refusal::Depth);
     }
     read_collection(bytes, at, head, room - 1, e)
 }
 
 // A count, and as many geometries.
 #[cycle(bodies)]
-fn read_collection(bytes: &[u8], at: usize, head: Head, room: u32, e: Extents) -> Reached
+fn read_collection(
+    bytes: &[u8],
+    at: usize,
+    head: Head,
+    room: u32,
+    e: Extents,
+) -> Result<Reached, Refusal>
     ensures { outcome.entered e (wkb.read_collection room head (drop at bytes.now)) ≡ outcome.reached bytes.now result }
 {
     if is_short(bytes, at, 4) {
-        return Reached::Refused(WKB_LENGTH);
+        return Err(Refusal::Length);
     }
-    let mut left = word_at(bytes, at, head.low);
+    let count = word_at(bytes, at, head.low);
     let mut end = at + 4;
     let mut entered = e;
-    while 0 < left {
-        let reached = read_part(bytes, end, head, room, entered);
-        let Reached::At(next, more) = reached else {
-            return reached;
-        };
-        end = next;
-        entered = more;
-        left -= 1;
+    for part in 0..count {
+        (end, entered) = read_part(bytes, end, head, room, entered)?;
     }
-    Reached::At(end, entered)
+    Ok((end, entered))
 }
 
 // A geometry in a collection.
 #[cycle(bodies)]
-fn read_part(bytes: &[u8], at: usize, parent: Head, room: u32, e: Extents) -> Reached
+fn read_part(
+    bytes: &[u8],
+    at: usize,
+    parent: Head,
+    room: u32,
+    e: Extents,
+) -> Result<Reached, Refusal>
     ensures { outcome.entered e (wkb.read_part room parent (drop at bytes.now)) ≡ outcome.reached bytes.now result }
 {
-    let headed = read_part_head(bytes, at, parent);
-    match headed {
-        Headed::Refused(number) => Reached::Refused(number),
-        Headed::At(head, next) => read_body(bytes, next, head, room, e),
-    }
+    let (head, next) = read_part_head(bytes, at, parent)?;
+    read_body(bytes, next, head, room, e)
 }

@@ -3,7 +3,7 @@ ghost use Rattle.std.specs.Prelude.{◌≡◌, drop};
 ghost use Rattle.sedona_wkb.specs.Outcome as outcome;
 ghost use Rattle.sedona_wkb.specs.Wkb as wkb;
 
-use crate::error::{WKB_CODE, WKB_LENGTH};
+use crate::error::Refusal;
 use crate::numbers::{is_short, word_at};
 
 // The kinds of geometries, the last digits of their type codes. A kind of many is that of one plus 3.
@@ -24,13 +24,6 @@ pub struct Head {
     pub dims: u32,
 }
 
-// A head and where it ends, or the number that refuses it.
-#[derive(Clone, Copy)]
-pub enum Headed {
-    At(Head, usize),
-    Refused(u32),
-}
-
 // Whether a head's type code is one.
 fn is_type(head: Head) -> bool
     ensures { result ≡ wkb.is_type head }
@@ -38,19 +31,19 @@ fn is_type(head: Head) -> bool
     0 < head.kind && (head.kind <= COLLECTION && head.dims < 4)
 }
 
-// The head at a place.
-pub(crate) fn read_head(bytes: &[u8], at: usize) -> Headed
+// The head at a place, and where it ends.
+pub(crate) fn read_head(bytes: &[u8], at: usize) -> Result<(Head, usize), Refusal>
     ensures { wkb.read_head (drop at bytes.now) ≡ outcome.headed bytes.now result }
 {
     if is_short(bytes, at, 1) {
-        return Headed::Refused(WKB_LENGTH);
+        return Err(Refusal::Length);
     }
     let order = bytes[at];
     if 1 < order {
-        return Headed::Refused(WKB_CODE);
+        return Err(Refusal::Code);
     }
     if is_short(bytes, at + 1, 4) {
-        return Headed::Refused(WKB_LENGTH);
+        return Err(Refusal::Length);
     }
     let code = word_at(bytes, at + 1, order == 1);
     let head = Head {
@@ -59,9 +52,9 @@ pub(crate) fn read_head(bytes: &[u8], at: usize) -> Headed
         dims: code / 1000,
     };
     if is_type(head) {
-        return Headed::At(head, at + 5);
+        return Ok((head, at + 5));
     }
-    Headed::Refused(WKB_CODE)
+    Err(Refusal::Code)
 }
 
 // Whether a head may be that of a part: its dimensions are the parent's, and many have one of theirs.
@@ -72,16 +65,17 @@ fn is_part(parent: Head, head: Head) -> bool
         && (parent.kind == COLLECTION || head.kind as u64 + 3 == parent.kind as u64)
 }
 
-// The head of a part at a place.
-pub(crate) fn read_part_head(bytes: &[u8], at: usize, parent: Head) -> Headed
+// The head of a part at a place, and where it ends.
+pub(crate) fn read_part_head(
+    bytes: &[u8],
+    at: usize,
+    parent: Head,
+) -> Result<(Head, usize), Refusal>
     ensures { wkb.read_part_head parent (drop at bytes.now) ≡ outcome.headed bytes.now result }
 {
-    let headed = read_head(bytes, at);
-    let Headed::At(head, _) = headed else {
-        return headed;
-    };
+    let (head, end) = read_head(bytes, at)?;
     if is_part(parent, head) {
-        return headed;
+        return Ok((head, end));
     }
-    Headed::Refused(WKB_CODE)
+    Err(Refusal::Code)
 }

@@ -3,10 +3,10 @@ use lib.Ieee.{of_bits}
 use Rattle.geoparquet_bbox.specs.Layout.{lows_then_highs}
 use Rattle.geoparquet_bbox.proofs.layout.laid_out.Goals as goal
 
-pub returns-in_default : goal.returns-in_default
+pub returns-in-None : goal.returns-in-None
 unfolding lows_then_highs of_bits
-returns-in_default c = rw c.in_default.is
+returns-in-None c = rw c.in-None.is
 
-pub returns : goal.returns
+pub returns-in-Some : goal.returns-in-Some
 unfolding lows_then_highs
-returns c = rw c.in-Known.is
+returns-in-Some c = rw c.in-Some.is

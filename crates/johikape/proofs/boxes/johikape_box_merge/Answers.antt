@@ -1,5 +1,19 @@
 -- `johikape_box_merge` meets its contract. Assumes nothing.
+use mathlib.Core.Path.{refl, sym, ◌∙◌}
+use Rattle.sedona_geometry.proofs.Canonical.{stays_box, merge_box_canonical}
+use Rattle.johikape.specs.Boxes.{join, unless_refused}
 use Rattle.johikape.proofs.boxes.johikape_box_merge.Goals as goal
 
+pub returns-in_default : goal.returns-in_default
+unfolding join unless_refused
+returns-in_default c = rw (← c.read.ensures, c.in_default.is) (c.number.ensures, (refl, refl))
+
+pub returns-in_default-read : goal.returns-in_default-read
+unfolding join unless_refused
+returns-in_default-read c = rw (← c.read.ensures, c.in-Some.is, ← c.read-2.ensures, c.in_default-read.is) (c.number-in_default-read.ensures, (refl, refl))
+
 pub returns : goal.returns
-returns c = rw (← c.read-first.ensures, ← c.read-second.ensures, ← c.merged.ensures) c.put_box.ensures
+unfolding join unless_refused
+returns c =
+    let e = c.merge_box.ensures ∙ sym (stays_box (merge_box_canonical c.in-Some.first c.in-Some-read.second)) in
+    rw (← c.read.ensures, c.in-Some.is, ← c.read-2.ensures, c.in-Some-read.is) (refl, rw e at c.put.ensures)

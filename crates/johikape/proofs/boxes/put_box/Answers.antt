@@ -1,23 +1,15 @@
 -- `boxes::put_box` meets its contract. Assumes nothing.
 use mathlib.Core.Path.{refl}
-use borrow.Author.Tests.{eq-eqb, ne_eqb}
+use borrow.Author.Tests.{ne_eqb}
 use Rattle.johikape.specs.Boxes.{unless_refused}
 use Rattle.johikape.proofs.boxes.put_box.Goals as goal
 
-pub returns-then-a-ne0 : goal.returns-then-a-ne0
+pub returns-in-Ok : goal.returns-in-Ok
 unfolding unless_refused
-returns-then-a-ne0 c = rw (ne_eqb c.args.a.number 0 c.if-a-ne0.true) (refl, (refl, refl))
+returns-in-Ok g c = rw c.in-Ok.is (refl, c.put.ensures)
 
-pub returns : goal.returns
+pub returns-in-Err : goal.returns-in-Err
 unfolding unless_refused
-returns c =
-    rw (
-      eq-eqb c.args.a.number 0 c.if-a-ne0.false,
-      c.low.ensures,
-      c.high.ensures,
-      c.low-2.ensures,
-      c.high-2.ensures,
-      c.known.ensures.0,
-      c.known-2.ensures.0,
-      c.if-a-ne0.false,
-    ) (refl, (refl, refl))
+returns-in-Err g c =
+    let e = c.in-Err.e in
+    rw (c.in-Err.is, ne_eqb (g.E.Numbered.number e) 0 (g.met.E.Numbered.not_zero e)) (c.number.ensures, (refl, refl))

@@ -2,4 +2,6 @@
 use Rattle.johikape.proofs.filters.johikape_filter_bbox.Goals as goal
 
 pub returns : goal.returns
-returns c = rw (← c.filter_bbox.ensures) c.put_box.ensures
+returns c =
+    let t = c.new-table.ensures in
+    rw (← t.0, ← t.1, ← t.2, ← c.filter_bbox.ensures) c.put_box.ensures

@@ -2,4 +2,4 @@
 use Rattle.johikape.proofs.filters.johikape_find_name.Goals as goal
 
 pub returns : goal.returns
-returns c = c.find_name-found.ensures
+returns c = rw (c.is_some.ensures, c.unwrap_or.ensures) c.find_name-found.ensures

@@ -2,4 +2,4 @@
 use Rattle.johikape.proofs.intervals.johikape_x_expand_by.Goals as goal
 
 pub returns : goal.returns
-returns c = rw (c.ends.ensures, c.expand_by-expanded.ensures, c.x.ensures)
+returns c = rw (c.ends.ensures, c.expand_by.ensures, c.x.ensures)

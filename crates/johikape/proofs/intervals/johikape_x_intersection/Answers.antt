@@ -3,10 +3,10 @@ use mathlib.Core.Path.{refl}
 use Rattle.johikape.specs.Intervals.{Gives}
 use Rattle.johikape.proofs.intervals.johikape_x_intersection.Goals as goal
 
-pub returns-in-Refused : goal.returns-in-Refused
+pub returns-in-Ok : goal.returns-in-Ok
 unfolding Gives
-returns-in-Refused c = rw (← c.x.ensures, ← c.x-2.ensures, ← c.intersection.ensures, c.in-Refused.is) (refl, (refl, refl))
+returns-in-Ok c = rw (← c.x.ensures, ← c.x-2.ensures, ← c.intersection.ensures, c.in-Ok.is) (refl, (refl, refl))
 
-pub returns-in-Single : goal.returns-in-Single
+pub returns-in-Err : goal.returns-in-Err
 unfolding Gives
-returns-in-Single c = rw (← c.x.ensures, ← c.x-2.ensures, ← c.intersection.ensures, c.in-Single.is) (refl, (refl, refl))
+returns-in-Err c = rw (← c.x.ensures, ← c.x-2.ensures, ← c.intersection.ensures, c.in-Err.is) (c.number.ensures, (refl, refl))

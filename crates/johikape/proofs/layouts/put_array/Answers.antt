@@ -1,13 +1,14 @@
 -- `layouts::put_array` meets its contract. Assumes nothing.
 use mathlib.Core.Path.{refl}
 use borrow.Author.Tests.{ne_eqb}
+use Rattle.geoparquet_bbox.specs.Error.{number, number_is_not_zero}
 use Rattle.johikape.specs.Boxes.{unless_refused}
 use Rattle.johikape.proofs.layouts.put_array.Goals as goal
 
-pub returns-then-a-ne0 : goal.returns-then-a-ne0
+pub returns-in-Ok : goal.returns-in-Ok
 unfolding unless_refused
-returns-then-a-ne0 c = rw (ne_eqb c.args.a.number 0 c.if-a-ne0.true) (refl, (refl, refl))
+returns-in-Ok c = rw c.in-Ok.is (refl, (refl, refl))
 
-pub returns : goal.returns
+pub returns-in-Err : goal.returns-in-Err
 unfolding unless_refused
-returns c = rw c.if-a-ne0.false (refl, (refl, refl))
+returns-in-Err c = rw (c.in-Err.is, ne_eqb (number c.in-Err.e) 0 (number_is_not_zero c.in-Err.e)) (c.number.ensures, (refl, refl))

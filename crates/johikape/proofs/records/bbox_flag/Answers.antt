@@ -3,8 +3,8 @@ use mathlib.Core.Path.{refl}
 use native.Mathlib.Omega.{arith}
 use Rattle.johikape.proofs.records.bbox_flag.Goals as goal
 
-pub returns-in-Missing : goal.returns-in-Missing
-returns-in-Missing c = rw c.in-Missing.is (refl, omega arith)
+pub returns-in-None : goal.returns-in-None
+returns-in-None c = rw c.in-None.is (refl, omega arith)
 
-pub returns-in-Known : goal.returns-in-Known
-returns-in-Known c = (rw (c.in-Known.is, c.known.ensures.0, c.known-in-Known.ensures.0), omega (arith, c.known.ensures.1, c.known-in-Known.ensures.1))
+pub returns-in-Some : goal.returns-in-Some
+returns-in-Some c = (rw (c.in-Some.is, c.known.ensures.0, c.known-in-Some.ensures.0), omega (arith, c.known.ensures.1, c.known-in-Some.ensures.1))

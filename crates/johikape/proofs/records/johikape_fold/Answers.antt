@@ -1,18 +1,27 @@
 -- `johikape_fold` meets its contract. Assumes nothing.
 use mathlib.Core.Path.{refl}
-use borrow.Author.Tests.{eq-eqb, ne_eqb}
+use borrow.Author.Tests.{ne_eqb}
+use Rattle.sedona_expr.specs.Error.{number, number_is_not_zero}
 use Rattle.johikape.specs.Boxes.{unless_refused}
 use Rattle.johikape.specs.Records.{lists, folded}
-use Rattle.johikape.proofs.Lists.{lists_pass}
+use Rattle.johikape.proofs.Lists.{lists_pass, number_of_fold, record_of_fold}
 use Rattle.johikape.proofs.records.johikape_fold.Goals as goal
 
-pub returns-then-number-ne0 : goal.returns-then-number-ne0
+pub returns-in-Err : goal.returns-in-Err
 unfolding unless_refused folded
-returns-then-number-ne0 c = rw (← c.lists_refusal-number.ensures, ne_eqb c.lists_refusal-number.result 0 c.if-number-ne0.true) (refl, rw (ne_eqb c.lists_refusal-number.result 0 c.if-number-ne0.true))
+returns-in-Err c = rw (← c.in-Err.ensures, ne_eqb (number c.in-Err.e) 0 (number_is_not_zero c.in-Err.e)) (c.number.ensures, rw (ne_eqb (number c.in-Err.e) 0 (number_is_not_zero c.in-Err.e)))
 
-pub fold_lists-out-requires : goal.fold_lists-out-requires
-fold_lists-out-requires c = lists_pass (lists c.args.doubles.now c.args.totals.now c.args.types.now c.args.flags.now) c.lists_refusal-number.result c.lists_refusal-number.ensures c.if-number-ne0.false
+pub fold-requires : goal.fold-requires
+fold-requires c = lists_pass (lists c.args.doubles.now c.args.totals.now c.args.types.now c.args.flags.now) 0 c.in_default.ensures refl
 
-pub returns : goal.returns
+pub returns-in-Ok : goal.returns-in-Ok
 unfolding unless_refused folded
-returns c = rw (← c.lists_refusal-number.ensures, eq-eqb c.lists_refusal-number.result 0 c.if-number-ne0.false, ← c.fold_lists-out.ensures) c.put_record.ensures
+returns-in-Ok c =
+    rw (← c.in_default.ensures, ← c.in-Ok.ensures, number_of_fold c.in-Ok.folded, record_of_fold c.in-Ok.folded)
+    (refl, rw (c.unwrap_or-rec.ensures, c.unspecified.ensures) at c.put_record.ensures)
+
+pub returns-in-Err-fold : goal.returns-in-Err-fold
+unfolding unless_refused folded
+returns-in-Err-fold c =
+    let e = c.in-Err-fold.e in
+    rw (← c.in_default.ensures, ← c.in-Err-fold.ensures, ne_eqb (number e) 0 (number_is_not_zero e)) (c.number-in-Err-fold.ensures, refl)

@@ -1,8 +1,8 @@
 -- `records::or_zero` meets its contract. Assumes nothing.
 use Rattle.johikape.proofs.records.or_zero.Goals as goal
 
-pub returns-in-Missing : goal.returns-in-Missing
-returns-in-Missing c = rw (c.in-Missing.is, c.xy.ensures, c.new.ensures, c.new-in-Missing.ensures)
+pub returns-in-None : goal.returns-in-None
+returns-in-None c = rw (c.in-None.is, c.xy.ensures, c.new.ensures, c.new-in-None.ensures)
 
-pub returns-in-Known : goal.returns-in-Known
-returns-in-Known c = rw c.in-Known.is
+pub returns-in-Some : goal.returns-in-Some
+returns-in-Some c = rw c.in-Some.is

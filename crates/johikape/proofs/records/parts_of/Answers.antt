@@ -26,6 +26,6 @@ sum_of s = sum_is (knows_types s.geometry_types) (knows_total s.total_geometries
 
 pub returns : goal.returns
 returns c = (
-  rw (c.types_flag.ensures.0, c.total_flag.ensures.0, c.total_flag-2.ensures.0, c.total_flag-3.ensures.0, c.total_flag-4.ensures.0, c.total_flag-5.ensures.0, c.total_flag-6.ensures.0, c.total_flag-7.ensures.0, c.extent_flag.ensures.0, c.extent_flag-2.ensures.0) (sum_of c.args.r),
-  omega (arith, c.types_flag.ensures.1, c.total_flag.ensures.1, c.total_flag-2.ensures.1, c.total_flag-3.ensures.1, c.total_flag-4.ensures.1, c.total_flag-5.ensures.1, c.total_flag-6.ensures.1, c.total_flag-7.ensures.1, c.extent_flag.ensures.1, c.extent_flag-2.ensures.1),
+  rw (c.flag_of.ensures.0, c.flag_of-2.ensures.0, c.flag_of-3.ensures.0, c.flag_of-4.ensures.0, c.flag_of-5.ensures.0, c.flag_of-6.ensures.0, c.flag_of-7.ensures.0, c.flag_of-8.ensures.0, c.flag_of-9.ensures.0, c.flag_of-10.ensures.0) (sum_of c.args.r),
+  omega (arith, c.flag_of.ensures.1, c.flag_of-2.ensures.1, c.flag_of-3.ensures.1, c.flag_of-4.ensures.1, c.flag_of-5.ensures.1, c.flag_of-6.ensures.1, c.flag_of-7.ensures.1, c.flag_of-8.ensures.1, c.flag_of-9.ensures.1, c.flag_of-10.ensures.1),
 )

@@ -5,7 +5,7 @@ use Rattle.johikape.proofs.records.read.Goals as goal
 pub returns : goal.returns
 unfolding read
 returns c = λ i. record {
-  bbox = c.box_at.ensures i;
+  bbox = (rw (c.new.ensures.0, c.new.ensures.1) at c.at.ensures) i;
   geometry_types = c.types_of.ensures i;
   total_geometries = c.total_at.ensures i;
   total_size_bytes = c.total_at-2.ensures i;

@@ -6,7 +6,7 @@ use Rattle.johikape.proofs.tariff.johikape_fee_of_record.Goals as goal
 
 pub returns-then-not-are_good : goal.returns-then-not-are_good
 unfolding unless_refused fee_of_record
-returns-then-not-are_good c = rw (← c.are_good.ensures, c.if-not-are_good.true) (refl, refl)
+returns-then-not-are_good c = rw (← c.are_good.ensures, c.if-not-are_good.true) (c.number.ensures, refl)
 
 pub returns : goal.returns
 unfolding fee_of_record

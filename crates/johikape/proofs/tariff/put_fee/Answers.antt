@@ -1,13 +1,14 @@
 -- `tariff::put_fee` meets its contract. Assumes nothing.
-use mathlib.Core.Path.{refl, sym}
-use borrow.Author.Tests.{eq-eqb, ne_eqb}
+use mathlib.Core.Path.{refl}
+use borrow.Author.Tests.{ne_eqb}
+use Rattle.scan_tariff.specs.Error.{number, number_is_not_zero}
 use Rattle.johikape.specs.Boxes.{unless_refused}
 use Rattle.johikape.proofs.tariff.put_fee.Goals as goal
 
-pub returns-then-a-ne0 : goal.returns-then-a-ne0
+pub returns-in-Ok : goal.returns-in-Ok
 unfolding unless_refused
-returns-then-a-ne0 c = (refl, rw (ne_eqb _ 0 c.if-a-ne0.true))
+returns-in-Ok c = rw c.in-Ok.is (refl, refl)
 
-pub returns : goal.returns
+pub returns-in-Err : goal.returns-in-Err
 unfolding unless_refused
-returns c = (sym c.if-a-ne0.false, rw (eq-eqb _ 0 c.if-a-ne0.false))
+returns-in-Err c = rw (c.in-Err.is, ne_eqb (number c.in-Err.e) 0 (number_is_not_zero c.in-Err.e)) (c.number.ensures, refl)

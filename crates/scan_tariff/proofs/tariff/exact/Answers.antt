@@ -18,25 +18,25 @@ module _ (n : ℕ) (rates : Rates) (billed : n ≤ most_bytes) (good : rates_ref
   third = band_most (third_band n) rates.third (omega (arith, billed)) (rates_pass rates good).1.1
 
 pub overflow_mul-result : goal.overflow_mul-result
-overflow_mul-result c = rw c.below-first.ensures (record { fits = omega (arith, first c.args.bytes c.args.rates c.requires.0 c.requires.1) })
+overflow_mul-result c = rw c.min-first.ensures (record { fits = omega (arith, first c.args.bytes c.args.rates c.requires.0 c.requires.1) })
 
 pub overflow_mul-result-2 : goal.overflow_mul-result-2
 overflow_mul-result-2 c =
-    rw (c.below-first.ensures, c.below-both.ensures) (record { fits = omega (arith, second c.args.bytes c.args.rates c.requires.0 c.requires.1) })
+    rw (c.min-first.ensures, c.min-both.ensures) (record { fits = omega (arith, second c.args.bytes c.args.rates c.requires.0 c.requires.1) })
 
 pub overflow_add-result : goal.overflow_add-result
 overflow_add-result c =
-    rw (c.below-first.ensures, c.below-both.ensures)
+    rw (c.min-first.ensures, c.min-both.ensures)
     (record { fits = omega (arith, first c.args.bytes c.args.rates c.requires.0 c.requires.1, second c.args.bytes c.args.rates c.requires.0 c.requires.1) })
 
 pub overflow_mul-result-3 : goal.overflow_mul-result-3
-overflow_mul-result-3 c = rw c.below-both.ensures (record { fits = omega (arith, third c.args.bytes c.args.rates c.requires.0 c.requires.1) })
+overflow_mul-result-3 c = rw c.min-both.ensures (record { fits = omega (arith, third c.args.bytes c.args.rates c.requires.0 c.requires.1) })
 
 pub overflow_add-result-2 : goal.overflow_add-result-2
 overflow_add-result-2 c =
-    rw (c.below-first.ensures, c.below-both.ensures)
+    rw (c.min-first.ensures, c.min-both.ensures)
     (record { fits = omega (arith, first c.args.bytes c.args.rates c.requires.0 c.requires.1, second c.args.bytes c.args.rates c.requires.0 c.requires.1, third c.args.bytes c.args.rates c.requires.0 c.requires.1) })
 
 pub returns : goal.returns
 unfolding exact
-returns c = rw (c.below-first.ensures, c.below-both.ensures)
+returns c = rw (c.min-first.ensures, c.min-both.ensures)

@@ -14,10 +14,10 @@ returns-in_default c = rw c.in_default.is
 
 pub returns-then-bytes-lt0 : goal.returns-then-bytes-lt0
 returns-then-bytes-lt0 c =
-    let A : SFits w64 c.in-Known.bytes = search rules in
-    sym (ap is_billed c.in-Known.is ∙ negative_not_billed c.in-Known.bytes (rw (to_z-of_z A) at c.if-bytes-lt0.true))
+    let A : SFits w64 c.in-Some.bytes = search rules in
+    sym (ap is_billed c.in-Some.is ∙ negative_not_billed c.in-Some.bytes (rw (to_z-of_z A) at c.if-bytes-lt0.true))
 
 pub returns : goal.returns
 returns c =
-    let A : SFits w64 c.in-Known.bytes = search rules in
-    rw (to_z-of_z A) (sym (ap is_billed c.in-Known.is ∙ billed_up_to c.in-Known.bytes (rw (to_z-of_z A) at c.if-bytes-lt0.false)))
+    let A : SFits w64 c.in-Some.bytes = search rules in
+    rw (to_z-of_z A) (sym (ap is_billed c.in-Some.is ∙ billed_up_to c.in-Some.bytes (rw (to_z-of_z A) at c.if-bytes-lt0.false)))

@@ -1,6 +1,6 @@
 -- `names::has_twice_by_marks` meets its contract: the names so far differ, and have their marks set. Assumes nothing.
 use mathlib.Core.Path.{◌≡◌}
-use Prim.Native.Nat.{ℕ, ◌-◌, ◌≤◌, ◌/◌, ◌%◌}
+use Prim.Native.Nat.{ℕ, ◌/◌, ◌%◌}
 use lib.ListN.{length}
 use Rattle.sedona_expr.proofs.Twice.{Differ, Marked}
 use Rattle.sedona_expr.specs.Within.{mark_of}
@@ -14,7 +14,4 @@ abbrev pub bit : ℕ → ℕ
 bit n = mark_of n % 64
 
 abbrev pub invariant-loop-i : goal.invariant-loop-i
-invariant-loop-i l = (l.i ≤ length l.names) × ((length l.marks ≡ 512) × (Differ l.names l.i × Marked word bit l.marks l.names l.i))
-
-abbrev pub decreases-loop-i : goal.decreases-loop-i
-decreases-loop-i l = length l.names - l.i
+invariant-loop-i l = (length l.marks ≡ 512) × (Differ l.names l.i × Marked word bit l.marks l.names l.i)

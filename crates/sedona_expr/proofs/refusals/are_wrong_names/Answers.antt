@@ -2,10 +2,10 @@
 use Rattle.sedona_expr.specs.Refusals.{wrong_names}
 use Rattle.sedona_expr.proofs.refusals.are_wrong_names.Goals as goal
 
-pub returns-then-not-named : goal.returns-then-not-named
+pub returns-in-ByPosition : goal.returns-in-ByPosition
 unfolding wrong_names
-returns-then-not-named c = rw c.if-not-named.true
+returns-in-ByPosition c = rw c.in-ByPosition.is
 
-pub returns : goal.returns
+pub returns-in-ByName : goal.returns-in-ByName
 unfolding wrong_names
-returns c = rw c.if-not-named.false
+returns-in-ByName c = rw c.in-ByName.is

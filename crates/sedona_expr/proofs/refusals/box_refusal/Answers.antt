@@ -1,19 +1,17 @@
 -- `refusals::box_refusal` meets its contract. Assumes nothing.
-use Rattle.sedona_expr.specs.Tables.{table}
+use mathlib.Core.Path.{sym}
+use Rattle.sedona_expr.specs.Spelled.{table}
 use Rattle.sedona_expr.specs.Refusals.{box_refusal}
-use Rattle.sedona_expr.proofs.Passing.{or_else_stop, or_else_next, table_pass}
+use Rattle.sedona_expr.proofs.Passing.{stop, next, table_pass}
 use Rattle.sedona_expr.proofs.refusals.box_refusal.Goals as goal
 
-pub returns-then-number-ne0 : goal.returns-then-number-ne0
+pub returns-in_err-table_refusal : goal.returns-in_err-table_refusal
 unfolding box_refusal
-returns-then-number-ne0 c = or_else_stop _ c.table_refusal-number.ensures c.if-number-ne0.true
+returns-in_err-table_refusal c = stop _ _ _ c.from_residual.ensures.1 c.in_err-table_refusal.ensures
 
 pub tree_refusal-requires : goal.tree_refusal-requires
-tree_refusal-requires c =
-    let args = c.args in
-    let table_refusal = c.table_refusal-number in
-    table_pass (table args.nodes.now args.literals.now args.literal_flags.now) table_refusal.result table_refusal.ensures c.if-number-ne0.false
+tree_refusal-requires c = table_pass (table c.args.table.now) (sym c.in_ok-table_refusal.ensures)
 
 pub returns : goal.returns
 unfolding box_refusal
-returns c = or_else_next c.table_refusal-number.ensures c.if-number-ne0.false c.tree_refusal.ensures
+returns c = next c.in_ok-table_refusal.ensures c.tree_refusal.ensures

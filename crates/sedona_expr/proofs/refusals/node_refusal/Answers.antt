@@ -5,16 +5,16 @@ use Rattle.sedona_expr.proofs.refusals.node_refusal.Goals as goal
 
 pub returns-then-kind-gt-LAST_KIND : goal.returns-then-kind-gt-LAST_KIND
 unfolding node_refusal
-returns-then-kind-gt-LAST_KIND c = rw (← c.word-kind.ensures, lt-ltb _ _ c.if-kind-gt-LAST_KIND.true)
+returns-then-kind-gt-LAST_KIND c = rw (← c.kind-kind.ensures, lt-ltb _ _ c.if-kind-gt-LAST_KIND.true)
 
 pub returns-then-kind-eq-HAS_Z : goal.returns-then-kind-eq-HAS_Z
 unfolding node_refusal
-returns-then-kind-eq-HAS_Z c = rw (c.column_refusal.ensures, ← c.word-kind.ensures, le-ltb _ _ c.if-kind-gt-LAST_KIND.false, eq-eqb _ _ c.if-kind-eq-HAS_Z.true)
+returns-then-kind-eq-HAS_Z c = rw (c.column_refusal.ensures, ← c.kind-kind.ensures, le-ltb _ _ c.if-kind-gt-LAST_KIND.false, eq-eqb _ _ c.if-kind-eq-HAS_Z.true)
 
 pub returns-then-is_pair : goal.returns-then-is_pair
 unfolding node_refusal
 returns-then-is_pair c =
-    let word = c.word-kind in
+    let word = c.kind-kind in
     let if1 = c.if-kind-gt-LAST_KIND in
     let if2 = c.if-kind-eq-HAS_Z in
     let is_pair = c.is_pair in
@@ -25,7 +25,7 @@ returns-then-is_pair c =
 pub returns-then-is_leaf : goal.returns-then-is_leaf
 unfolding node_refusal
 returns-then-is_leaf c =
-    let word = c.word-kind in
+    let word = c.kind-kind in
     let if1 = c.if-kind-gt-LAST_KIND in
     let if2 = c.if-kind-eq-HAS_Z in
     let is_pair = c.is_pair in
@@ -38,7 +38,7 @@ returns-then-is_leaf c =
 pub returns : goal.returns
 unfolding node_refusal
 returns c =
-    let word = c.word-kind in
+    let word = c.kind-kind in
     let if1 = c.if-kind-gt-LAST_KIND in
     let if2 = c.if-kind-eq-HAS_Z in
     let is_pair = c.is_pair in

@@ -1,20 +1,17 @@
 -- `refusals::records_refusal` meets its contract. Assumes nothing.
 use Rattle.sedona_expr.specs.Refusals.{records_refusal}
-use Rattle.sedona_expr.proofs.Passing.{or_else_stop, or_else_next}
+use Rattle.sedona_expr.proofs.Passing.{stop, next}
 use Rattle.sedona_expr.proofs.refusals.records_refusal.Goals as goal
 
-pub returns-then-number-ne0 : goal.returns-then-number-ne0
+pub returns-in_err-lengths_refusal : goal.returns-in_err-lengths_refusal
 unfolding records_refusal
-returns-then-number-ne0 c = or_else_stop _ c.lengths_refusal-number.ensures c.if-number-ne0.true
+returns-in_err-lengths_refusal c = stop _ _ _ c.from_residual.ensures.1 c.in_err-lengths_refusal.ensures
 
-pub returns-then-number-ne0-2 : goal.returns-then-number-ne0-2
+pub returns-in_err-values_refusal : goal.returns-in_err-values_refusal
 unfolding records_refusal
-returns-then-number-ne0-2 c =
-    or_else_next c.lengths_refusal-number.ensures c.if-number-ne0.false
-    (or_else_stop _ c.values_refusal-number.ensures c.if-number-ne0-2.true)
+returns-in_err-values_refusal c =
+    next c.in_ok-lengths_refusal.ensures (stop _ _ _ c.from_residual-in_err-values_refusal.ensures.1 c.in_err-values_refusal.ensures)
 
 pub returns : goal.returns
 unfolding records_refusal
-returns c =
-    or_else_next c.lengths_refusal-number.ensures c.if-number-ne0.false
-    (or_else_next c.values_refusal-number.ensures c.if-number-ne0-2.false c.twice_refusal.ensures)
+returns c = next c.in_ok-lengths_refusal.ensures (next c.in_ok-values_refusal.ensures c.twice_refusal.ensures)

@@ -12,7 +12,8 @@ use Rattle.sedona_expr.specs.Error as error
 use Rattle.sedona_expr.specs.Tables.{count}
 use Rattle.sedona_expr.specs.declared.refusals.Lent.{Lent}
 use Rattle.sedona_expr.specs.Refusals.{refuse_if, nodes_refusal, uses, all_below, uses_refusal, tree_refusal}
-use Rattle.sedona_expr.proofs.Passing.{or_else_stop, or_else_next, nodes_next, nodes_stop, one_node, children_marked}
+use Rattle.sedona_expr.specs.Error.{number_is_not_zero}
+use Rattle.sedona_expr.proofs.Passing.{or_else_next, stop, nodes_next, nodes_stop, one_node, children_marked}
 use Rattle.sedona_expr.proofs.Marks.{marks_small, uses_next, marks_count_uses}
 use Rattle.sedona_expr.proofs.refusals.tree_refusal.Goals as goal
 
@@ -25,42 +26,32 @@ marks_tell ns ms lent n h k l z c = or_else_next refl (subst (λ (m : ℕ). node
 pub returns-then-count-eq1 : goal.returns-then-count-eq1
 returns-then-count-eq1 c =
     let args = c.args in
-    c.node_refusal.ensures ∙ one_node args.nodes.now args.lent c.if-count-eq1.true
+    c.node_refusal.ensures ∙ one_node args.table.now.nodes.now args.lent (sym c.count-count.ensures ∙ c.if-count-eq1.true)
 
 pub loop-node-init : goal.loop-node-init
-loop-node-init c = (omega arith, (refl, (length-replicate {A = ℕ} 1024 0, λ m h. get_or-replicate 1024 m 0 0 h)))
+loop-node-init c = (refl, (length-replicate {A = ℕ} 1024 0, λ m h. get_or-replicate 1024 m 0 0 h))
 
-pub returns-then-number-ne0 : goal.returns-then-number-ne0
+pub returns-in_err-node_refusal : goal.returns-in_err-node_refusal
 unfolding tree_refusal
-returns-then-number-ne0 c =
+returns-in_err-node_refusal c =
     let args = c.args in
     let loop = c.loop-node in
-    or_else_stop _
-    (nodes_stop args.nodes.now args.lent loop.node loop.invariant.1.0 c.node_refusal-number.ensures (count args.nodes.now) c.loop-node-test.true c.if-number-ne0.true)
-    c.if-number-ne0.true
+    stop _ _ _ c.from_residual.ensures.1
+    (nodes_stop args.table.now.nodes.now args.lent loop.node loop.invariant.0 c.in_err-node_refusal.ensures (count args.table.now.nodes.now) (omega arith) (number_is_not_zero _))
 
 pub mark_children-requires : goal.mark_children-requires
 mark_children-requires c =
     let loop = c.loop-node in (
-      marks_small loop.marks c.args.nodes.now loop.node (omega (arith, c.requires.1, loop.invariant.0)) loop.invariant.1.1,
-      (omega (arith, c.loop-node-test.true), children_marked c.args.nodes.now c.args.lent loop.node (omega (arith, c.requires.1, loop.invariant.0)) (sym c.node_refusal-number.ensures ∙ c.if-number-ne0.false)),
+      marks_small loop.marks c.args.table.now.nodes.now loop.node (omega (arith, c.requires.1)) loop.invariant.1,
+      (omega arith, children_marked c.args.table.now.nodes.now c.args.lent loop.node (omega (arith, c.requires.1)) (sym c.in_ok-node_refusal.ensures)),
     )
-
-pub overflow_add-node : goal.overflow_add-node
-overflow_add-node c = record { fits = omega (arith, c.requires.1) }
-
-pub loop-node-smaller : goal.loop-node-smaller
-loop-node-smaller c = omega arith
 
 pub loop-node-preserved : goal.loop-node-preserved
 loop-node-preserved c =
     let args = c.args in
     let loop = c.loop-node in (
-      omega arith,
-      (
-        nodes_next args.nodes.now args.lent loop.node loop.invariant.1.0 c.node_refusal-number.ensures c.if-number-ne0.false,
-        uses_next args.nodes.now loop.marks c.mark_children.new.marks loop.node loop.invariant.1.1 c.mark_children.ensures,
-      ),
+      nodes_next args.table.now.nodes.now args.lent loop.node loop.invariant.0 c.in_ok-node_refusal.ensures refl,
+      uses_next args.table.now.nodes.now loop.marks c.mark_children.new.marks loop.node loop.invariant.1 c.mark_children.ensures,
     )
 
 pub are_once-requires : goal.are_once-requires
@@ -69,9 +60,9 @@ are_once-requires c = omega (arith, c.requires.1)
 pub returns-then-are_once : goal.returns-then-are_once
 returns-then-are_once c =
     let loop = c.loop-node in
-    rw (← c.are_once.ensures, c.if-are_once.true) at (marks_tell c.args.nodes.now loop.marks c.args.lent loop.node loop.invariant.0 c.loop-node-test.false c.requires.1 loop.invariant.1.0 loop.invariant.1.1)
+    rw (← c.count-count.ensures, ← c.are_once.ensures, c.if-are_once.true) at (marks_tell c.args.table.now.nodes.now loop.marks c.args.lent loop.node (omega arith) (omega arith) c.requires.1 loop.invariant.0 loop.invariant.1)
 
 pub returns-else-are_once : goal.returns-else-are_once
 returns-else-are_once c =
     let loop = c.loop-node in
-    rw (← c.are_once.ensures, c.if-are_once.false) at (marks_tell c.args.nodes.now loop.marks c.args.lent loop.node loop.invariant.0 c.loop-node-test.false c.requires.1 loop.invariant.1.0 loop.invariant.1.1)
+    rw (← c.count-count.ensures, ← c.are_once.ensures, c.if-are_once.false) at (marks_tell c.args.table.now.nodes.now loop.marks c.args.lent loop.node (omega arith) (omega arith) c.requires.1 loop.invariant.0 loop.invariant.1)

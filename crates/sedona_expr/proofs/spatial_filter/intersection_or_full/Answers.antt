@@ -1,12 +1,11 @@
 -- `spatial_filter::intersection_or_full` meets its contract. Assumes nothing.
-use borrow.Author.Tests.{eq-eqb, ne_eqb}
 use Rattle.sedona_expr.specs.SpatialFilter.{or_full}
+use Rattle.sedona_expr.proofs.Parts.{all_if_refused}
 use Rattle.sedona_expr.proofs.spatial_filter.intersection_or_full.Goals as goal
 
-pub returns-then-out-ne0 : goal.returns-then-out-ne0
+pub returns-in-Ok : goal.returns-in-Ok
 unfolding or_full
-returns-then-out-ne0 c = rw (← c.intersection-out.ensures, ne_eqb _ _ c.if-out-ne0.true, c.full.ensures)
+returns-in-Ok c = rw (← c.intersection.ensures, c.in-Ok.is)
 
-pub returns : goal.returns
-unfolding or_full
-returns c = rw (← c.intersection-out.ensures, eq-eqb _ _ c.if-out-ne0.false)
+pub returns-in-Err : goal.returns-in-Err
+returns-in-Err c = rw (← c.intersection.ensures, c.in-Err.is, all_if_refused) c.full.ensures

@@ -1,12 +1,9 @@
--- `spatial_filter::is_known_empty` meets its contract. Assumes nothing.
+-- `is_known_empty` meets its contract. Assumes nothing.
+use Rattle.std.proofs.Common.{rules, refl}
 use Rattle.sedona_expr.specs.SpatialFilter.{is_known_empty}
-use borrow.Author.Rules.{rules}
+use Rattle.sedona_geometry.proofs.Options.{some_and}
 use Rattle.sedona_expr.proofs.spatial_filter.is_known_empty.Goals as goal
-
-pub returns-in_default : goal.returns-in_default
-unfolding is_known_empty
-returns-in_default c = search rules
 
 pub returns : goal.returns
 unfolding is_known_empty
-returns c = rw (c.in-Known.is, c.is_empty.ensures)
+returns c = some_and is_known_empty refl c.args.d c.is_some_and.ensures (λ x e. search rules)

@@ -7,10 +7,10 @@ use Rattle.sedona_expr.proofs.spatial_filter.leaf_may_match.Goals as goal
 
 pub returns-then-kind-eq-HAS_Z : goal.returns-then-kind-eq-HAS_Z
 unfolding leaf_at
-returns-then-kind-eq-HAS_Z c = rw (c.may_have_z.ensures, c.record_of-seen.ensures, ← c.word-kind.ensures, eq-eqb _ _ c.if-kind-eq-HAS_Z.true)
+returns-then-kind-eq-HAS_Z c = rw (c.may_have_z.ensures, c.record_of.ensures, ← c.kind-kind.ensures, eq-eqb _ _ c.if-kind-eq-HAS_Z.true)
 
 pub returns : goal.returns
 unfolding leaf_at
 returns c =
-    let word = c.word-kind in
-    rw (c.box_may_match.ensures, c.record_of-seen-2.ensures, c.literal_of-k.ensures, ← word.ensures, ne_eqb _ _ c.if-kind-eq-HAS_Z.false) (sym (answer_of_leaf _ word.result _ _))
+    let kind = c.kind-kind in
+    rw (c.box_may_match.ensures, c.record_of-seen.ensures, c.literal_of-literal.ensures, ← kind.ensures, ne_eqb _ _ c.if-kind-eq-HAS_Z.false) (sym (answer_of_leaf _ kind.result _ _))

@@ -1,12 +1,9 @@
--- `spatial_filter::may_be_z` meets its contract. Assumes nothing.
+-- `may_be_z` meets its contract. Assumes nothing.
+use Rattle.std.proofs.Common.{rules, refl}
 use Rattle.sedona_expr.specs.SpatialFilter.{may_be_z}
-use borrow.Author.Rules.{rules}
+use Rattle.sedona_geometry.proofs.Options.{none_or}
 use Rattle.sedona_expr.proofs.spatial_filter.may_be_z.Goals as goal
-
-pub returns-in_default : goal.returns-in_default
-unfolding may_be_z
-returns-in_default c = search rules
 
 pub returns : goal.returns
 unfolding may_be_z
-returns c = rw (c.in-Known.is, c.has_z_type.ensures)
+returns c = none_or may_be_z refl c.args.types c.is_none_or.ensures (λ s e. search rules)

@@ -1,12 +1,9 @@
--- `spatial_filter::may_intersect` meets its contract. Assumes nothing.
+-- `may_intersect` meets its contract. Assumes nothing.
+use Rattle.std.proofs.Common.{rules, refl}
 use Rattle.sedona_expr.specs.SpatialFilter.{may_intersect}
-use borrow.Author.Rules.{rules}
+use Rattle.sedona_geometry.proofs.Options.{none_or}
 use Rattle.sedona_expr.proofs.spatial_filter.may_intersect.Goals as goal
-
-pub returns-in_default : goal.returns-in_default
-unfolding may_intersect
-returns-in_default c = search rules
 
 pub returns : goal.returns
 unfolding may_intersect
-returns c = rw (c.in-Known.is, c.intersects.ensures)
+returns c = none_or (λ b. may_intersect b c.args.literal) refl c.args.b c.is_none_or.ensures (λ b e. search rules)

@@ -1,14 +1,22 @@
--- `statistics::fold` meets its contract: a record more, and the end. Assumes nothing.
-use mathlib.Core.Path.{refl}
-use Rattle.sedona_expr.specs.Statistics.{step, fold_from}
+-- `statistics::fold` meets its contract: a record more, a refusal, and the end. Assumes nothing.
+use Rattle.std.proofs.Common.{rules, refl, Ok, Err}
+use Rattle.sedona_expr.specs.Statistics.{step, folded, fold_from}
+use Rattle.sedona_expr.proofs.Checked.{refusal_stays}
 use Rattle.sedona_expr.proofs.Turns.{one_more, at_end}
 use Rattle.sedona_expr.proofs.statistics.fold.Goals as goal
 
-pub loop-i-preserved : goal.loop-i-preserved
+pub loop-next-preserved : goal.loop-next-preserved
 unfolding fold_from
-loop-i-preserved c =
-    one_more step fold_from (λ f r rs. refl) c.args.records.now c.loop-i.i _ c.loop-i.acc c.step-acc.result _ c.loop-i-test.true c.loop-i.invariant c.step-acc.ensures
+loop-next-preserved c =
+    one_more step fold_from (λ f r rs. refl) c.args.records.now c.loop-next.next-index _ (folded (Ok c.loop-next.folded)) _ _ c.loop-next-test.true c.loop-next.invariant c.in_ok-fold_step.ensures
+
+pub returns-in_err-fold_step : goal.returns-in_err-fold_step
+unfolding fold_from
+returns-in_err-fold_step c =
+    let e = c.in_err-fold_step.field-0.0 in
+    let all = one_more step fold_from (λ f r rs. refl) c.args.records.now c.loop-next.next-index _ (folded (Ok c.loop-next.folded)) (folded (Err e)) _ c.loop-next-test.true c.loop-next.invariant c.in_err-fold_step.ensures in
+    rw (← all, refusal_stays e) (search rules)
 
 pub returns : goal.returns
 unfolding fold_from
-returns c = at_end fold_from (λ f. refl) c.args.records.now c.loop-i.i c.loop-i.acc _ c.loop-i-test.false c.loop-i.invariant
+returns c = at_end fold_from (λ f. refl) c.args.records.now c.loop-next.next-index (folded (Ok c.loop-next.folded)) _ c.loop-next-test.false c.loop-next.invariant

@@ -1,5 +1,6 @@
 -- `bounds::box_of` meets its contract. Assumes nothing.
 use Rattle.sedona_wkb.specs.Bounds.{box_of}
+use Rattle.sedona_geometry.proofs.Options.{by_flag}
 use Rattle.sedona_wkb.proofs.bounds.box_of.Goals as goal
 
 pub returns : goal.returns
@@ -8,8 +9,10 @@ returns c =
     rw (
       c.xyzm.ensures,
       c.from_interval-x.ensures,
-      c.known_where-z.ensures,
+      c.then_some-z.ensures,
       c.has_z.ensures,
-      c.known_where-m.ensures,
+      c.then_some-m.ensures,
       c.has_m.ensures,
+      by_flag,
+      by_flag,
     )

@@ -1,4 +1,5 @@
 -- `bounds::wkb_bounds` meets its contract. Assumes nothing.
+use Rattle.std.proofs.Common.{rules}
 use mathlib.Core.Path.{sym, ap, ◌∙◌}
 use Rattle.sedona_wkb.specs.Bounds.{answer}
 use Rattle.sedona_wkb.specs.Outcome.{headed}
@@ -7,22 +8,16 @@ use Rattle.sedona_wkb.proofs.Only.{head_known}
 use Rattle.sedona_wkb.proofs.bounds.wkb_bounds.Goals as goal
 
 pub returns-then-bytes-gt-MOST_BYTES : goal.returns-then-bytes-gt-MOST_BYTES
-returns-then-bytes-gt-MOST_BYTES c = c.refused.ensures ∙ too_long _ c.if-bytes-gt-MOST_BYTES.true
+returns-then-bytes-gt-MOST_BYTES c = too_long _ c.if-bytes-gt-MOST_BYTES.true
 
 pub bounds_of-requires : goal.bounds_of-requires
 unfolding headed
-bounds_of-requires c =
-    let args = c.args in
-    head_known args.bytes.now _ _ (c.read_head-headed.ensures ∙ ap (headed args.bytes.now) c.in-At.is)
+bounds_of-requires c = head_known c.args.bytes.now _ _ c.in_ok-head.ensures
 
-pub returns-in-Refused : goal.returns-in-Refused
+pub returns-in_err-head : goal.returns-in_err-head
 unfolding headed
-returns-in-Refused c =
-    let args = c.args in
-    c.refused-in-Refused.ensures ∙ head_refused args.bytes.now c.if-bytes-gt-MOST_BYTES.false _ (c.read_head-headed.ensures ∙ ap (headed args.bytes.now) c.in-Refused.is)
+returns-in_err-head c = rw (← head_refused c.args.bytes.now c.if-bytes-gt-MOST_BYTES.false _ c.in_err-head.ensures) (search rules)
 
-pub returns-in-At : goal.returns-in-At
+pub returns : goal.returns
 unfolding headed
-returns-in-At c =
-    let args = c.args in
-    c.bounds_of.ensures ∙ ap answer (sym (head_found args.bytes.now c.if-bytes-gt-MOST_BYTES.false _ _ (c.read_head-headed.ensures ∙ ap (headed args.bytes.now) c.in-At.is)))
+returns c = c.bounds_of.ensures ∙ ap answer (sym (head_found c.args.bytes.now c.if-bytes-gt-MOST_BYTES.false _ _ c.in_ok-head.ensures))

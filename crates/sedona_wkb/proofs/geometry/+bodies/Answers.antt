@@ -1,9 +1,9 @@
 -- The cycle of calls {read_body, read_collection, read_part} meets its contracts. Assumes nothing.
-use mathlib.Core.Path.{ap, ◌∙◌}
-use Prim.Native.Nat.{◌≤◌, ◌+◌}
+use mathlib.Core.Path.{◌≡◌, ap, ◌∙◌}
+use Prim.Native.Nat.{◌≤◌, ◌+◌, ◌-◌}
 use native.Mathlib.Omega.{arith}
 use lib.ListN.{length}
-use borrow.Author.Rules.{rules}
+use Rattle.std.proofs.Common.{rules}
 use Rattle.sedona_wkb.specs.Outcome.{entered, reached, headed}
 use Rattle.sedona_wkb.specs.Wkb.{read_body, read_part}
 use Rattle.sedona_wkb.proofs.Readers.{counted_there, counted_short, turn, turn_refused, no_turn, within_refused, within_found, body_one, body_many, body_deep, body_collection}
@@ -44,8 +44,8 @@ read_collection-returns-then-is_short t c =
     let args = c.args in
     counted_short args.head (read_part args.room args.head) args.bytes.now args.at args.e (short c.is_short.ensures c.if-is_short.true)
 
-pub read_collection-word_at-left-requires : goal.read_collection-word_at-left-requires
-read_collection-word_at-left-requires t c = there c.is_short.ensures c.if-is_short.false
+pub read_collection-word_at-count-requires : goal.read_collection-word_at-count-requires
+read_collection-word_at-count-requires t c = there c.is_short.ensures c.if-is_short.false
 
 pub read_collection-overflow_add-end : goal.read_collection-overflow_add-end
 read_collection-overflow_add-end t c =
@@ -53,43 +53,45 @@ read_collection-overflow_add-end t c =
     let g : args.at + 4 ≤ length args.bytes.now = there c.is_short.ensures c.if-is_short.false in
     search rules
 
-pub read_collection-loop-left-init : goal.read_collection-loop-left-init
-read_collection-loop-left-init t c =
+pub read_collection-loop-part-init : goal.read_collection-loop-part-init
+read_collection-loop-part-init t c =
     let args = c.args in
-    rw c.word_at-left.ensures (counted_there args.head (read_part args.room args.head) args.bytes.now args.at args.e (there c.is_short.ensures c.if-is_short.false))
+    let m : c.word_at-count.result - 0 ≡ c.word_at-count.result = omega arith in
+    rw (m, c.word_at-count.ensures) (counted_there args.head (read_part args.room args.head) args.bytes.now args.at args.e (there c.is_short.ensures c.if-is_short.false))
 
-pub read_collection-read_part-reached-requires : goal.read_collection-read_part-reached-requires
-read_collection-read_part-reached-requires t c = (omega (arith, c.decreases), tt)
+pub read_collection-read_part-requires : goal.read_collection-read_part-requires
+read_collection-read_part-requires t c = (omega (arith, c.decreases), tt)
 
-pub read_collection-returns-in_default : goal.read_collection-returns-in_default
-read_collection-returns-in_default t c =
+pub read_collection-returns-in_err-end : goal.read_collection-returns-in_err-end
+unfolding reached
+read_collection-returns-in_err-end t c =
     let args = c.args in
-    let loop = c.loop-left in
-    loop.invariant ∙ turn_refused args.bytes.now (read_part args.room args.head) loop.end _ _ c.read_part-reached.ensures _ c.loop-left-test.true _ c.in_default.is
+    let loop = c.loop-part in
+    rw (loop.invariant, turn_refused args.bytes.now (read_part args.room args.head) loop.end _ _ c.read_part.ensures c.word_at-count.result loop.part c.loop-part-test.true _ c.in_err-end.was) (search rules)
 
-pub read_collection-loop-left-preserved : goal.read_collection-loop-left-preserved
-read_collection-loop-left-preserved t c =
+pub read_collection-loop-part-preserved : goal.read_collection-loop-part-preserved
+read_collection-loop-part-preserved t c =
     let args = c.args in
-    let loop = c.loop-left in
-    loop.invariant ∙ turn args.bytes.now (read_part args.room args.head) loop.end _ _ c.read_part-reached.ensures _ c.loop-left-test.true _ _ c.in-At.is
+    let loop = c.loop-part in
+    loop.invariant ∙ turn args.bytes.now (read_part args.room args.head) loop.end _ _ c.read_part.ensures c.word_at-count.result loop.part c.loop-part-test.true _ _ c.in_ok-end.was
 
 pub read_collection-returns : goal.read_collection-returns
 unfolding reached
-read_collection-returns t c = c.loop-left.invariant ∙ no_turn _ _ _ _ c.loop-left-test.false
+read_collection-returns t c = c.loop-part.invariant ∙ no_turn _ _ _ _ _ c.loop-part-test.false
 
 -- ---- a part of a collection
 
 pub read_part-read_body-requires : goal.read_part-read_body-requires
 read_part-read_body-requires t c = (omega (arith, c.decreases), tt)
 
-pub read_part-returns-in-Refused : goal.read_part-returns-in-Refused
-unfolding headed entered reached
-read_part-returns-in-Refused t c =
+pub read_part-returns-in_err-head : goal.read_part-returns-in_err-head
+unfolding headed reached
+read_part-returns-in_err-head t c =
     let args = c.args in
-    within_refused args.parent _ (read_body args.room) args.e _ (c.read_part_head-headed.ensures ∙ ap (headed args.bytes.now) c.in-Refused.is)
+    rw (within_refused args.parent _ (read_body args.room) args.e _ c.in_err-head.ensures) (search rules)
 
-pub read_part-returns-in-At : goal.read_part-returns-in-At
+pub read_part-returns : goal.read_part-returns
 unfolding headed
-read_part-returns-in-At t c =
+read_part-returns t c =
     let args = c.args in
-    within_found args.parent _ (read_body args.room) args.e _ _ (c.read_part_head-headed.ensures ∙ ap (headed args.bytes.now) c.in-At.is) ∙ c.read_body.ensures
+    within_found args.parent _ (read_body args.room) args.e _ _ c.in_ok-head.ensures ∙ c.read_body.ensures

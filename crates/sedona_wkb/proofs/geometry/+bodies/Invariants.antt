@@ -1,6 +1,6 @@
 -- The cycle of calls {read_body, read_collection, read_part} ends: the room for collections falls, three steps a collection. Assumes nothing.
 use mathlib.Core.Path.{◌≡◌}
-use Prim.Native.Nat.{◌*◌, ◌+◌}
+use Prim.Native.Nat.{◌*◌, ◌+◌, ◌-◌}
 use lib.ListN.{drop}
 use Rattle.sedona_wkb.specs.Outcome.{entered}
 use Rattle.sedona_wkb.specs.Reading.{several}
@@ -17,9 +17,6 @@ abbrev pub decreases-read_collection : goal.decreases-read_collection
 decreases-read_collection l = 3 * l.room + 2
 
 -- what is entered and what is left to read are all there is
-abbrev pub invariant-read_collection-loop-left : goal.invariant-read_collection-loop-left
-invariant-read_collection-loop-left l =
-    entered l.initial.entered (read_collection l.room l.head (drop l.at l.bytes)) ≡ entered l.entered (several l.left (read_part l.room l.head) (drop l.end l.bytes))
-
-abbrev pub decreases-read_collection-loop-left : goal.decreases-read_collection-loop-left
-decreases-read_collection-loop-left l = l.left
+abbrev pub invariant-read_collection-loop-part : goal.invariant-read_collection-loop-part
+invariant-read_collection-loop-part l =
+    entered l.initial.entered (read_collection l.room l.head (drop l.at l.bytes)) ≡ entered l.entered (several (l.count - l.part) (read_part l.room l.head) (drop l.end l.bytes))

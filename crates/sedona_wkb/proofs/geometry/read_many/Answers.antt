@@ -1,8 +1,9 @@
 -- `geometry::read_many` meets its contract: what is entered and what is left to read are all there is. Assumes nothing.
-use mathlib.Core.Path.{◌∙◌}
-use Prim.Native.Nat.{◌+◌, ◌≤◌}
+use mathlib.Core.Path.{◌≡◌, ◌∙◌}
+use Prim.Native.Nat.{◌+◌, ◌-◌, ◌≤◌}
+use native.Mathlib.Omega.{arith}
 use lib.ListN.{length}
-use borrow.Author.Rules.{rules}
+use Rattle.std.proofs.Common.{rules}
 use Rattle.sedona_wkb.specs.Outcome.{reached}
 use Rattle.sedona_wkb.specs.Wkb.{read_member}
 use Rattle.sedona_wkb.proofs.Readers.{counted_there, counted_short, turn, turn_refused, no_turn}
@@ -15,8 +16,8 @@ returns-then-is_short c =
     let args = c.args in
     counted_short args.head (read_member args.head) args.bytes.now args.at args.e (short c.is_short.ensures c.if-is_short.true)
 
-pub word_at-left-requires : goal.word_at-left-requires
-word_at-left-requires c = there c.is_short.ensures c.if-is_short.false
+pub word_at-count-requires : goal.word_at-count-requires
+word_at-count-requires c = there c.is_short.ensures c.if-is_short.false
 
 pub overflow_add-end : goal.overflow_add-end
 overflow_add-end c =
@@ -24,23 +25,25 @@ overflow_add-end c =
     let g : args.at + 4 ≤ length args.bytes.now = there c.is_short.ensures c.if-is_short.false in
     search rules
 
-pub loop-left-init : goal.loop-left-init
-loop-left-init c =
+pub loop-part-init : goal.loop-part-init
+loop-part-init c =
     let args = c.args in
-    rw c.word_at-left.ensures (counted_there args.head (read_member args.head) args.bytes.now args.at args.e (there c.is_short.ensures c.if-is_short.false))
+    let m : c.word_at-count.result - 0 ≡ c.word_at-count.result = omega arith in
+    rw (m, c.word_at-count.ensures) (counted_there args.head (read_member args.head) args.bytes.now args.at args.e (there c.is_short.ensures c.if-is_short.false))
 
-pub returns-in_default : goal.returns-in_default
-returns-in_default c =
+pub returns-in_err-end : goal.returns-in_err-end
+unfolding reached
+returns-in_err-end c =
     let args = c.args in
-    let loop = c.loop-left in
-    loop.invariant ∙ turn_refused args.bytes.now (read_member args.head) loop.end _ _ c.read_member-reached.ensures _ c.loop-left-test.true _ c.in_default.is
+    let loop = c.loop-part in
+    rw (loop.invariant, turn_refused args.bytes.now (read_member args.head) loop.end _ _ c.read_member.ensures c.word_at-count.result loop.part c.loop-part-test.true _ c.in_err-end.was) (search rules)
 
-pub loop-left-preserved : goal.loop-left-preserved
-loop-left-preserved c =
+pub loop-part-preserved : goal.loop-part-preserved
+loop-part-preserved c =
     let args = c.args in
-    let loop = c.loop-left in
-    loop.invariant ∙ turn args.bytes.now (read_member args.head) loop.end _ _ c.read_member-reached.ensures _ c.loop-left-test.true _ _ c.in-At.is
+    let loop = c.loop-part in
+    loop.invariant ∙ turn args.bytes.now (read_member args.head) loop.end _ _ c.read_member.ensures c.word_at-count.result loop.part c.loop-part-test.true _ _ c.in_ok-end.was
 
 pub returns : goal.returns
 unfolding reached
-returns c = c.loop-left.invariant ∙ no_turn _ _ _ _ c.loop-left-test.false
+returns c = c.loop-part.invariant ∙ no_turn _ _ _ _ _ c.loop-part-test.false

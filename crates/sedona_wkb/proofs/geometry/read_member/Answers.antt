@@ -1,18 +1,15 @@
 -- `geometry::read_member` meets its contract. Assumes nothing.
-use mathlib.Core.Path.{ap, ◌∙◌}
+use Rattle.std.proofs.Common.{rules}
+use mathlib.Core.Path.{◌∙◌}
 use Rattle.sedona_wkb.specs.Outcome.{headed, reached}
 use Rattle.sedona_wkb.specs.Wkb.{read_one}
 use Rattle.sedona_wkb.proofs.Readers.{within_refused, within_found}
 use Rattle.sedona_wkb.proofs.geometry.read_member.Goals as goal
 
-pub returns-in-Refused : goal.returns-in-Refused
+pub returns-in_err-head : goal.returns-in_err-head
 unfolding headed reached
-returns-in-Refused c =
-    let args = c.args in
-    within_refused args.parent _ read_one args.e _ (c.read_part_head-headed.ensures ∙ ap (headed args.bytes.now) c.in-Refused.is)
+returns-in_err-head c = rw (within_refused c.args.parent _ read_one c.args.e _ c.in_err-head.ensures) (search rules)
 
-pub returns-in-At : goal.returns-in-At
+pub returns : goal.returns
 unfolding headed
-returns-in-At c =
-    let args = c.args in
-    within_found args.parent _ read_one args.e _ _ (c.read_part_head-headed.ensures ∙ ap (headed args.bytes.now) c.in-At.is) ∙ c.read_one.ensures
+returns c = within_found c.args.parent _ read_one c.args.e _ _ c.in_ok-head.ensures ∙ c.read_one.ensures

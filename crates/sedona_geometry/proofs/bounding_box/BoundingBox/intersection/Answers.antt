@@ -1,25 +1,25 @@
 -- `BoundingBox::intersection` meets its contract. Assumes nothing.
-use Rattle.sedona_geometry.specs.BoundingBox.{intersection, with_x}
+use Rattle.std.proofs.Common.{rules}
+use Rattle.sedona_geometry.specs.BoundingBox.{intersection, with_x, intersect_dimensions}
+use Rattle.sedona_geometry.specs.Interval as interval
+use Rattle.sedona_geometry.proofs.Canonical.{stays_box, xyzm_canonical}
 use Rattle.sedona_geometry.proofs.bounding_box.BoundingBox.intersection.Goals as goal
 
-pub returns-in-Refused : goal.returns-in-Refused
+pub returns-in_err-x : goal.returns-in_err-x
 unfolding intersection with_x
-returns-in-Refused c =
-    rw (
-      ← c.intersection.ensures,
-      c.in-Refused.is,
-      c.refused.ensures,
-    )
+returns-in_err-x c = rw (← c.intersection.ensures, c.in_err-x.was) (search rules)
 
-pub returns-in-Single : goal.returns-in-Single
+pub returns : goal.returns
 unfolding intersection with_x
-returns-in-Single c =
+returns c =
+    let a = c.args.self in
+    let b = c.args.other in
     rw (
       ← c.intersection.ensures,
-      c.in-Single.is,
-      c.accepted.ensures,
+      c.in_ok-x.was,
+      stays_box (xyzm_canonical c.in_ok-x.x (interval.intersection a.y b.y) (intersect_dimensions a.z b.z) (intersect_dimensions a.m b.m)),
       c.xyzm.ensures,
-      c.intersection-in-Single.ensures,
-      c.intersection-in-Single-2.ensures,
-      c.intersection-in-Single-3.ensures,
+      c.intersection-2.ensures,
+      c.intersect_dimensions.ensures,
+      c.intersect_dimensions-2.ensures,
     )

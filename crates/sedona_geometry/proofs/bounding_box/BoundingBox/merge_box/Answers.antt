@@ -9,6 +9,6 @@ returns c =
       c.xyzm.ensures,
       c.merge_interval.ensures,
       c.merge_interval-2.ensures,
-      c.merge.ensures,
-      c.merge-2.ensures,
+      c.merge_dimensions.ensures,
+      c.merge_dimensions-2.ensures,
     )

@@ -6,6 +6,6 @@ pub returns-then-is_wraparound : goal.returns-then-is_wraparound
 unfolding try_into_interval
 returns-then-is_wraparound c = rw (← c.is_wraparound.ensures, c.if-is_wraparound.true)
 
-pub returns-else-is_wraparound : goal.returns-else-is_wraparound
+pub returns : goal.returns
 unfolding try_into_interval
-returns-else-is_wraparound c = rw (c.plus_zero.ensures, ← c.is_wraparound.ensures, c.if-is_wraparound.false)
+returns c = rw (c.plus_zero.ensures, ← c.is_wraparound.ensures, c.if-is_wraparound.false)

@@ -1,0 +1,19 @@
+-- What the structs of slices that are lent to a filter call spell.
+use Rattle.sedona_expr.specs.Tables as tables
+use Rattle.sedona_expr.specs.declared.tables.Boxes.{Boxes}
+use Rattle.sedona_expr.specs.declared.tables.Table.{Table}
+use Rattle.sedona_expr.specs.declared.tables.Records.{Records}
+use Rattle.sedona_expr.specs.declared.tables.Lookup.{Lookup}
+
+abbrev pub boxes : Boxes → tables.Boxes
+boxes b = tables.boxes b.doubles.now b.flags.now
+
+abbrev pub table : Table → tables.Table
+table t = tables.table t.nodes.now t.literals.doubles.now t.literals.flags.now
+
+abbrev pub records : Records → tables.Records
+records r = tables.records r.boxes.doubles.now r.boxes.flags.now r.types.now r.known.now
+
+abbrev pub lookup : Lookup → tables.Lookup
+lookup Lookup.ByPosition = tables.by_position
+lookup (Lookup.ByName names) = tables.by_name names.now
