@@ -1,5 +1,5 @@
 // Boxes as eight doubles, low and high of x, y, z, m, and a flag: 1 box, 2 z known, 4 m known.
-ghost use Rattle.std.specs.Prelude.{◌≡◌, ◌≤◌};
+ghost use Rattle.std.specs.Prelude.{◌≡◌, cond, ◌≤◌, is_some};
 ghost use Rattle.sedona_geometry.specs.BoundingBox as bounding_box;
 ghost use Rattle.johikape.specs.Boxes as boxes;
 
@@ -40,14 +40,11 @@ pub(crate) fn high(d: Option<Interval>) -> f64
     }
 }
 
-// The flag, where it is known.
-pub(crate) fn known(d: Option<Interval>, flag: u8) -> u8
-    ensures { (result ≡ boxes.known d flag) × (result ≤ flag) }
+// A flag, where the part is known.
+pub(crate) fn flag_of<T: Copy>(part: Option<T>, flag: u32) -> u32
+    ensures { (result ≡ cond (is_some part) flag 0) × (result ≤ flag) }
 {
-    match d {
-        None => 0,
-        Some(_) => flag,
-    }
+    if part.is_some() { flag } else { 0 }
 }
 
 // Puts a box.
@@ -65,7 +62,7 @@ pub(crate) fn put(ends: &mut Ends, flag: &mut u8, b: BoundingBox)
         low(b.m),
         high(b.m),
     ];
-    *flag = 1 + known(b.z, 2) + known(b.m, 4);
+    *flag = (1 + flag_of(b.z, 2) + flag_of(b.m, 4)) as u8;
 }
 
 // Puts the box, where nothing refuses it, and answers the number.

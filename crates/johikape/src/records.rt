@@ -1,15 +1,14 @@
 // Records as ten doubles (the eight of the box, the two lengths), seven totals, a type set, and flags:
 // 1, 2, 4 of the box, and behind them a bit each for the types (8), the totals (16 to 1,024) and the
 // lengths (2,048 and 4,096).
-ghost use Rattle.std.specs.Prelude.{◌≡◌, cond, ◌≤◌, ◌<◌, ◌+◌, ◌*◌, pos, length, drop, get_or, is_some};
-ghost use Rattle.std.specs.Float.{nan};
+ghost use Rattle.std.specs.Prelude.{◌≡◌, ◌≤◌, ◌<◌, ◌+◌, ◌*◌, pos, length, drop, get_or};
 ghost use Rattle.sedona_expr.specs.Error as error;
 ghost use Rattle.sedona_expr.specs.Statistics as statistics;
 ghost use Rattle.sedona_geometry.specs.Lists as lists;
 ghost use Rattle.johikape.specs.Records as records;
 ghost use Rattle.johikape.specs.Within as within;
 
-use crate::boxes::{high, known, low};
+use crate::boxes::{flag_of, high, low};
 use sedona_expr::error::Refusal;
 use sedona_expr::refusals::is_good_flag;
 use sedona_expr::statistics::{GeoStatistics, fold_step};
@@ -34,35 +33,12 @@ const BASE: u32 = FLAG_LIMIT as u32;
 // All flags are below this: there are ten parts beside the box.
 const ALL: u32 = BASE * 1024;
 
-fn types_of(known: bool, bits: u32) -> Option<GeometryTypeAndDimensionsSet>
-    ensures { result ≡ records.types_of known bits }
-{
-    if known {
-        return Some(GeometryTypeAndDimensionsSet::from_bits(bits));
-    }
-    None
-}
-
 // The total at a place.
 pub(crate) fn total_at(known: bool, totals: &[i64], at: usize) -> Option<i64>
     requires { at < length totals.now }
     ensures { result ≡ records.total_of known (get_or totals.now at (pos 0)) }
 {
-    if known {
-        return Some(totals[at]);
-    }
-    None
-}
-
-// The length at a place.
-fn extent_at(known: bool, doubles: &[f64], at: usize) -> Option<f64>
-    requires { at < length doubles.now }
-    ensures { result ≡ records.extent_of known (get_or doubles.now at nan) }
-{
-    if known {
-        return Some(doubles[at]);
-    }
-    None
+    known.then_some(totals[at])
 }
 
 // The record of ten doubles, seven totals, a type set and flags.
@@ -71,9 +47,10 @@ pub(crate) fn read(doubles: &[f64], totals: &[i64], types: u32, flags: u32) -> G
     ensures { result ≡ records.read doubles.now totals.now types flags }
 {
     let parts = flags / BASE;
+    let set = GeometryTypeAndDimensionsSet::from_bits(types);
     GeoStatistics {
         bbox: Boxes::new(doubles, &[(flags % BASE) as u8]).at(0),
-        geometry_types: types_of(parts / 1 % 2 == 1, types),
+        geometry_types: (parts / 1 % 2 == 1).then_some(set),
         total_geometries: total_at(parts / 2 % 2 == 1, totals, 0),
         total_size_bytes: total_at(parts / 4 % 2 == 1, totals, 1),
         total_points: total_at(parts / 8 % 2 == 1, totals, 2),
@@ -81,8 +58,8 @@ pub(crate) fn read(doubles: &[f64], totals: &[i64], types: u32, flags: u32) -> G
         lineal_count: total_at(parts / 32 % 2 == 1, totals, 4),
         polygonal_count: total_at(parts / 64 % 2 == 1, totals, 5),
         collection_count: total_at(parts / 128 % 2 == 1, totals, 6),
-        total_envelope_width: extent_at(parts / 256 % 2 == 1, doubles, ENDS),
-        total_envelope_height: extent_at(parts / 512 % 2 == 1, doubles, ENDS + 1),
+        total_envelope_width: (parts / 256 % 2 == 1).then_some(doubles[ENDS]),
+        total_envelope_height: (parts / 512 % 2 == 1).then_some(doubles[ENDS + 1]),
     }
 }
 
@@ -123,15 +100,8 @@ fn bbox_flag(b: Option<BoundingBox>) -> u32
 {
     match b {
         None => 0,
-        Some(b) => (1 + known(b.z, 2) + known(b.m, 4)) as u32,
+        Some(b) => 1 + flag_of(b.z, 2) + flag_of(b.m, 4),
     }
-}
-
-// A flag, where the part is known.
-fn flag_of<T: Copy>(part: Option<T>, flag: u32) -> u32
-    ensures { (result ≡ cond (is_some part) flag 0) × (result ≤ flag) }
-{
-    if part.is_some() { flag } else { 0 }
 }
 
 // The flags of the ten parts beside the box, counted from 1 on.

@@ -10,6 +10,7 @@ pub mod Marks
 pub mod MayMatch
 pub mod NameSearches
 pub mod Needed
+pub mod NodeKinds
 pub mod Numbers
 pub mod Parts
 pub mod Passing

@@ -1,6 +1,6 @@
 -- The trees that a table spells: of a node with children and of one without, and what these say. Assumes nothing.
 use mathlib.Core.Path.{◌≡◌, refl, sym, subst, ap, ◌∙◌}
-use mathlib.Core.Bool.{Bool, true, false, not, ◌&&◌, cond}
+use mathlib.Core.Bool.{Bool, true, false, ◌&&◌, cond}
 use mathlib.Core.List.{List}
 use Prim.Native.Nat.{ℕ, zero, suc, ◌≤◌, ◌<◌}
 use native.Mathlib.Omega.{arith}
@@ -93,9 +93,20 @@ module _ {B : Type 0} (say : Filter → B) (t : Table) (n : ℕ) where
   unfolding tree_at tree_of has_children alone
   says_leaf h = rw (leaf_no_pair (kind t.nodes n) h, le-ltb 2 (kind t.nodes n) h)
 
-  pub says_other : 2 < kind t.nodes n → None ≡ children_of t.nodes n → say (tree_at t n) ≡ say (cond (eqb (kind t.nodes n) 5) literal_false unknown)
+  -- no leaf, no LiteralFalse, and no children
+  pub says_childless : 2 < kind t.nodes n → (kind t.nodes n ≡ 5 → ⊥) → None ≡ children_of t.nodes n → say (tree_at t n) ≡ say unknown
   unfolding tree_at tree_of alone
-  says_other h e = rw (found_none t.nodes n e, lt-ltb 2 (kind t.nodes n) h)
+  says_childless h d e = rw (found_none t.nodes n e, lt-ltb 2 (kind t.nodes n) h, ne_eqb (kind t.nodes n) 5 d)
+
+  pub says_false : kind t.nodes n ≡ 5 → say (tree_at t n) ≡ say literal_false
+  unfolding tree_at tree_of has_children alone
+  says_false h = rw h
+
+  pub says_unknown : 5 < kind t.nodes n → say (tree_at t n) ≡ say unknown
+  unfolding tree_at tree_of has_children alone
+  says_unknown h =
+      let k = kind t.nodes n in
+      rw (ne_eqb k 3 (λ e. absurd (omega arith)), ne_eqb k 4 (λ e. absurd (omega arith)), lt-ltb 2 k (omega arith), ne_eqb k 5 (λ e. absurd (omega arith)))
 
   pair_tree : (p : Pair) → HasChildren t.nodes n p
       → tree_at t n ≡ pair_of (kind t.nodes n) (and (tree_at t p.left) (tree_at t p.right)) (or (tree_at t p.left) (tree_at t p.right))
@@ -107,12 +118,7 @@ module _ {B : Type 0} (say : Filter → B) (t : Table) (n : ℕ) where
       ≡ pair_of (kind t.nodes n) (say (and (tree_at t p.left) (tree_at t p.right))) (say (or (tree_at t p.left) (tree_at t p.right)))
   says_pair p h = ap say (pair_tree p h) ∙ pair_map say (kind t.nodes n) (and (tree_at t p.left) (tree_at t p.right)) (or (tree_at t p.left) (tree_at t p.right))
 
--- ---- what a node without children says
--- a LiteralFalse, else an Unknown
-pub answer_other : (own : Column → ColumnRecord) (b : Bool) → answer own (cond b literal_false unknown) ≡ not b
-answer_other own true = refl
-answer_other own false = refl
-
+-- ---- what a leaf says
 pub answer_of_leaf : (own : Column → ColumnRecord) (k : ℕ) (c : Column) (l : BoundingBox) → answer own (leaf_of k (intersects c l) (covers c l)) ≡ leaf_of k (may_intersect (own c).bbox l) (may_cover (own c).bbox l)
 unfolding leaf_of
 answer_of_leaf own k c l = go (eqb k 0)

@@ -1,9 +1,11 @@
--- What the structs of slices that are lent to a filter call spell.
+-- What the structs of slices that are lent to a filter call spell, and the numbers of the kinds of nodes.
+use Rattle.std.specs.Prelude.{ℕ}
 use Rattle.sedona_expr.specs.Tables as tables
 use Rattle.sedona_expr.specs.declared.tables.Boxes.{Boxes}
 use Rattle.sedona_expr.specs.declared.tables.Table.{Table}
 use Rattle.sedona_expr.specs.declared.tables.Records.{Records}
 use Rattle.sedona_expr.specs.declared.tables.Lookup.{Lookup}
+use Rattle.sedona_expr.specs.declared.tables.Kind.{Kind}
 
 abbrev pub boxes : Boxes → tables.Boxes
 boxes b = tables.boxes b.doubles.now b.flags.now
@@ -17,3 +19,12 @@ records r = tables.records r.boxes.doubles.now r.boxes.flags.now r.types.now r.k
 abbrev pub lookup : Lookup → tables.Lookup
 lookup Lookup.ByPosition = tables.by_position
 lookup (Lookup.ByName names) = tables.by_name names.now
+
+abbrev pub kind : Kind → ℕ
+kind Kind.Intersects = 0
+kind Kind.Covers = 1
+kind Kind.HasZ = 2
+kind Kind.And = 3
+kind Kind.Or = 4
+kind Kind.LiteralFalse = 5
+kind Kind.Unknown = 6

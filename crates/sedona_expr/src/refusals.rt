@@ -10,9 +10,7 @@ ghost use Rattle.sedona_expr.specs.Within as within;
 
 use crate::error::Refusal;
 use crate::names::has_twice;
-use crate::tables::{
-    Boxes, FLAG_LIMIT, HAS_Z, LAST_KIND, Lookup, NODE, Records, Table, is_leaf, is_pair,
-};
+use crate::tables::{Boxes, FLAG_LIMIT, Kind, Lookup, NODE, Records, Table};
 
 // The words of the largest table, and its nodes.
 const MOST_WORDS: usize = 4096;
@@ -211,20 +209,12 @@ fn node_refusal(table: &Table, node: u32, lent: Lent) -> Result<(), Refusal>
     requires { within.HasNode table.now.nodes.now node }
     ensures { error.number_of result ≡ refusals.node_refusal table.now.nodes.now lent node }
 {
-    let kind = table.kind(node);
-    if kind > LAST_KIND {
-        return Err(Refusal::UnknownKind);
+    match Kind::try_from(table.word(node, 0))? {
+        Kind::HasZ => column_refusal(table, node, lent),
+        Kind::And | Kind::Or => pair_refusal(table, node),
+        Kind::Intersects | Kind::Covers => leaf_refusal(table, node, lent),
+        Kind::LiteralFalse | Kind::Unknown => Ok(()),
     }
-    if kind == HAS_Z {
-        return column_refusal(table, node, lent);
-    }
-    if is_pair(kind) {
-        return pair_refusal(table, node);
-    }
-    if is_leaf(kind) {
-        return leaf_refusal(table, node, lent);
-    }
-    Ok(())
 }
 
 // Counts a use of a node as a child.
@@ -241,11 +231,14 @@ fn mark_children(marks: &mut [u16; MOST_NODES], table: &Table, node: u32)
     requires { within.AtMost marks.old 65533 × (within.HasNode table.now.nodes.now node × within.HaveMarks table.now.nodes.now node) }
     ensures { within.Counted marks.new (λ m. get_or marks.old m 0 + refusals.uses_by table.now.nodes.now node m) }
 {
-    if is_pair(table.kind(node)) {
-        let left = table.word(node, 1);
-        let right = table.word(node, 2);
-        mark(marks, left);
-        mark(marks, right);
+    match table.kind(node) {
+        Kind::And | Kind::Or => {
+            let left = table.word(node, 1);
+            let right = table.word(node, 2);
+            mark(marks, left);
+            mark(marks, right);
+        }
+        _ => {}
     }
 }
 

@@ -12,9 +12,7 @@ ghost use Rattle.sedona_expr.specs.Within as within;
 
 use crate::error::Refusal;
 use crate::refusals::{box_refusal, refusal};
-use crate::tables::{
-    AND, ColumnRecord, HAS_Z, INTERSECTS, LITERAL_FALSE, Lookup, Records, Table, record_of,
-};
+use crate::tables::{ColumnRecord, Kind, Lookup, Records, Table, record_of};
 use sedona_geometry::bounding_box::BoundingBox;
 use sedona_geometry::interval::{Interval, WraparoundInterval};
 use sedona_geometry::types::GeometryTypeAndDimensionsSet;
@@ -40,13 +38,12 @@ fn may_cover(b: Option<BoundingBox>, literal: BoundingBox) -> bool
 }
 
 // What an Intersects, else a Covers, answers.
-fn box_may_match(kind: u32, b: Option<BoundingBox>, literal: BoundingBox) -> bool
-    ensures { result ≡ tables.leaf_of kind (filter.may_intersect b literal) (filter.may_cover b literal) }
+fn box_may_match(kind: Kind, b: Option<BoundingBox>, literal: BoundingBox) -> bool
+    ensures { result ≡ tables.leaf_of (spelled.kind kind) (filter.may_intersect b literal) (filter.may_cover b literal) }
 {
-    if kind == INTERSECTS {
-        may_intersect(b, literal)
-    } else {
-        may_cover(b, literal)
+    match kind {
+        Kind::Intersects => may_intersect(b, literal),
+        _ => may_cover(b, literal),
     }
 }
 
@@ -93,13 +90,6 @@ fn may_have_z(seen: ColumnRecord) -> bool
     may_be_z(types)
 }
 
-// What an And, else an Or, answers of its two sides.
-fn both_or_either(kind: u32, a: bool, b: bool) -> bool
-    ensures { result ≡ tables.pair_of kind (a && b) (a || b) }
-{
-    if kind == AND { a && b } else { a || b }
-}
-
 // What a leaf answers of the record that it finds. (It is looked for where the kinds have parted: then
 // the types are read for a HasZ alone.)
 fn leaf_may_match(table: &Table, records: &Records, lookup: &Lookup, node: u32) -> bool
@@ -107,30 +97,39 @@ fn leaf_may_match(table: &Table, records: &Records, lookup: &Lookup, node: u32) 
     ensures { result ≡ filter.answer (tables.record_of (spelled.lookup lookup.now) (spelled.records records.now)) (tables.leaf_at (spelled.table table.now) node) }
 {
     let kind = table.kind(node);
-    if kind == HAS_Z {
-        return may_have_z(record_of(table, records, lookup, node));
+    match kind {
+        Kind::HasZ => may_have_z(record_of(table, records, lookup, node)),
+        _ => {
+            let literal = table.literal_of(node);
+            let seen = record_of(table, records, lookup, node);
+            box_may_match(kind, seen.bbox, literal)
+        }
     }
-    let literal = table.literal_of(node);
-    let seen = record_of(table, records, lookup, node);
-    let bbox = seen.bbox;
-    box_may_match(kind, bbox, literal)
 }
 
-// Whether the tree of a node may match. (Leaves come first: most nodes are leaves.)
+// Whether the tree of a node may match.
 fn may_match(table: &Table, records: &Records, lookup: &Lookup, node: u32) -> bool
     requires { within.HasNode table.now.nodes.now node }
     ensures { result ≡ filter.answer (tables.record_of (spelled.lookup lookup.now) (spelled.records records.now)) (tables.tree_at (spelled.table table.now) node) }
 {
     let kind = table.kind(node);
-    if kind <= HAS_Z {
-        return leaf_may_match(table, records, lookup, node);
+    match kind {
+        Kind::Intersects | Kind::Covers | Kind::HasZ => {
+            leaf_may_match(table, records, lookup, node)
+        }
+        Kind::And | Kind::Or => {
+            let Some(pair) = table.children_of(node) else {
+                return true;
+            };
+            let a = may_match(table, records, lookup, pair.left);
+            let b = may_match(table, records, lookup, pair.right);
+            match kind {
+                Kind::And => a & b,
+                _ => a | b,
+            }
+        }
+        Kind::LiteralFalse | Kind::Unknown => kind == Kind::Unknown,
     }
-    let Some(pair) = table.children_of(node) else {
-        return kind != LITERAL_FALSE;
-    };
-    let a = may_match(table, records, lookup, pair.left);
-    let b = may_match(table, records, lookup, pair.right);
-    both_or_either(kind, a, b)
 }
 
 // All x and y, z and m missing.
@@ -156,13 +155,13 @@ fn leaf_box(table: &Table, name: u32, node: u32) -> BoundingBox
     requires { within.HasNode table.now.nodes.now node }
     ensures { result ≡ filter.box_for name (tables.leaf_at (spelled.table table.now) node) }
 {
-    if table.kind(node) == HAS_Z {
+    if table.word(node, 2) != name {
         return full();
     }
-    if table.word(node, 2) == name {
-        return table.literal_of(node);
+    match table.kind(node) {
+        Kind::HasZ => full(),
+        _ => table.literal_of(node),
     }
-    full()
 }
 
 // The box of the tree of a node, for the column of a name.
@@ -171,21 +170,20 @@ fn box_for(table: &Table, name: u32, node: u32) -> BoundingBox
     ensures { result ≡ filter.box_for name (tables.tree_at (spelled.table table.now) node) }
 {
     let kind = table.kind(node);
-    if kind <= HAS_Z {
-        return leaf_box(table, name, node);
+    match kind {
+        Kind::Intersects | Kind::Covers | Kind::HasZ => return leaf_box(table, name, node),
+        Kind::LiteralFalse => return BoundingBox::empty(),
+        _ => {}
     }
     let Some(pair) = table.children_of(node) else {
-        if kind == LITERAL_FALSE {
-            return BoundingBox::empty();
-        }
         return full();
     };
     let a = box_for(table, name, pair.left);
     let b = box_for(table, name, pair.right);
-    if kind == AND {
-        return intersection_or_full(&a, &b);
+    match kind {
+        Kind::And => intersection_or_full(&a, &b),
+        _ => a.merge_box(b),
     }
-    a.merge_box(b)
 }
 
 // Whether the filter may match a file, whose records are the columns' by their places or their names.

@@ -13,25 +13,56 @@ ghost use Rattle.sedona_expr.specs.Refusals as refusals;
 ghost use Rattle.sedona_expr.specs.Tables as tables;
 ghost use Rattle.sedona_expr.specs.Within as within;
 
+use crate::error::Refusal;
 use crate::names::find_name;
 use sedona_geometry::bounding_box::BoundingBox;
 use sedona_geometry::interval::{Interval, WraparoundInterval};
 use sedona_geometry::types::GeometryTypeAndDimensionsSet;
 
-// The kinds of nodes. An Unknown, 6, is the last of them.
-pub(crate) const INTERSECTS: u32 = 0;
+// What a node is.
+#[derive(Clone, Copy, Debug, PartialEq, Eq)]
+pub enum Kind {
+    Intersects,
+    Covers,
+    HasZ,
+    And,
+    Or,
+    LiteralFalse,
+    Unknown,
+}
 
-pub(crate) const COVERS: u32 = 1;
+// The word of an Unknown. No kind has a word over it.
+const LAST_KIND: u32 = 6;
 
-pub(crate) const HAS_Z: u32 = 2;
+impl Kind {
+    // The kind that a word stands for; an Unknown where it stands for none.
+    fn of(word: u32) -> Kind
+        ensures { spelled.kind result ≡ within.kind_or_unknown word }
+    {
+        match word {
+            0 => Kind::Intersects,
+            1 => Kind::Covers,
+            2 => Kind::HasZ,
+            3 => Kind::And,
+            4 => Kind::Or,
+            5 => Kind::LiteralFalse,
+            _ => Kind::Unknown,
+        }
+    }
+}
 
-pub(crate) const AND: u32 = 3;
+impl TryFrom<u32> for Kind {
+    type Error = Refusal;
 
-pub(crate) const OR: u32 = 4;
+    ghost try_from_gives = { within.Reads };
 
-pub(crate) const LITERAL_FALSE: u32 = 5;
-
-pub(crate) const LAST_KIND: u32 = 6;
+    fn try_from(word: u32) -> Result<Self, Refusal> {
+        if word > LAST_KIND {
+            return Err(Refusal::UnknownKind);
+        }
+        Ok(Kind::of(word))
+    }
+}
 
 // Doubles of a box.
 pub const ENDS: usize = 8;
@@ -41,26 +72,6 @@ pub const FLAG_LIMIT: u8 = 8;
 
 // Words of a node.
 pub(crate) const NODE: usize = 4;
-
-// An Intersects or a Covers.
-pub(crate) fn is_leaf(kind: u32) -> bool
-    ensures { result ≡ tables.is_leaf kind }
-{
-    if kind == INTERSECTS {
-        return true;
-    }
-    kind == COVERS
-}
-
-// An And or an Or.
-pub(crate) fn is_pair(kind: u32) -> bool
-    ensures { result ≡ tables.is_pair kind }
-{
-    if kind == AND {
-        return true;
-    }
-    kind == OR
-}
 
 // Boxes that are lent.
 #[derive(Clone, Copy)]
@@ -182,12 +193,13 @@ impl<'a> Table<'a> {
         self.nodes[at]
     }
 
-    // The first of them: the kind.
-    pub(crate) fn kind(&self, node: u32) -> u32
+    // The kind that the first of them stands for; an Unknown where it stands for none. (Such a node is refused
+    // before.)
+    pub(crate) fn kind(&self, node: u32) -> Kind
         requires { within.HasNode self.now.nodes.now node }
-        ensures { result ≡ tables.kind self.now.nodes.now node }
+        ensures { spelled.kind result ≡ within.kind_or_unknown (tables.kind self.now.nodes.now node) }
     {
-        self.word(node, 0)
+        Kind::of(self.word(node, 0))
     }
 
     // The children of an And or an Or, where both are below it. (One that is not is refused before.)
@@ -195,18 +207,20 @@ impl<'a> Table<'a> {
         requires { within.HasNode self.now.nodes.now node }
         ensures { result ≡ within.children_of self.now.nodes.now node }
     {
-        if is_pair(self.kind(node)) {
-            let left = self.word(node, 1);
-            let right = self.word(node, 2);
-            if left >= node {
-                return None;
+        match self.kind(node) {
+            Kind::And | Kind::Or => {
+                let left = self.word(node, 1);
+                let right = self.word(node, 2);
+                if left >= node {
+                    return None;
+                }
+                if right >= node {
+                    return None;
+                }
+                Some(Pair { left, right })
             }
-            if right >= node {
-                return None;
-            }
-            return Some(Pair { left, right });
+            _ => None,
         }
-        None
     }
 
     // The literal of a leaf.

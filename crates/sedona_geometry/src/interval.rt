@@ -514,3 +514,21 @@ impl WraparoundInterval {
         }
     }
 }
+
+impl From<Interval> for WraparoundInterval {
+    ghost from_gives = { λ inner x. x ≡ wraparound.from_interval inner };
+
+    fn from(inner: Interval) -> Self {
+        WraparoundInterval::from_interval(inner)
+    }
+}
+
+impl TryFrom<WraparoundInterval> for Interval {
+    type Error = Refusal;
+
+    ghost try_from_gives = { λ x result. result ≡ wraparound.try_into_interval x };
+
+    fn try_from(x: WraparoundInterval) -> Result<Self, Refusal> {
+        x.try_into_interval()
+    }
+}

@@ -117,9 +117,17 @@ fn read_line(bytes: &[u8], at: usize, head: Head, e: Extents) -> Result<Reached,
     Ok((first + length, enter_all(bytes, first, count, head, e)))
 }
 
-// A count, and lines: the rings.
-fn read_polygon(bytes: &[u8], at: usize, head: Head, e: Extents) -> Result<Reached, Refusal>
-    ensures { outcome.entered e (wkb.read_polygon head (drop at bytes.now)) ≡ outcome.reached bytes.now result }
+// A count, and as many parts, each read from where the one before it ends.
+pub(crate) fn read_parts<R: Fn(usize, Extents) -> Result<Reached, Refusal>>(
+    bytes: &[u8],
+    at: usize,
+    head: Head,
+    e: Extents,
+    read_part: R,
+) -> Result<Reached, Refusal>
+    requires { R.IsAlwaysCallable read_part }
+    ensures { (part : _) → outcome.Reads bytes.now part (R.post read_part)
+        → outcome.entered e (wkb.counted head part (drop at bytes.now)) ≡ outcome.reached bytes.now result }
 {
     if is_short(bytes, at, 4) {
         return Err(Refusal::Length);
@@ -127,10 +135,23 @@ fn read_polygon(bytes: &[u8], at: usize, head: Head, e: Extents) -> Result<Reach
     let count = word_at(bytes, at, head.low);
     let mut end = at + 4;
     let mut entered = e;
-    for part in 0..count {
-        (end, entered) = read_line(bytes, end, head, entered)?;
+    for taken in 0..count {
+        (end, entered) = read_part(end, entered)?;
     }
     Ok((end, entered))
+}
+
+// A count, and lines: the rings.
+fn read_polygon(bytes: &[u8], at: usize, head: Head, e: Extents) -> Result<Reached, Refusal>
+    ensures { outcome.entered e (wkb.read_polygon head (drop at bytes.now)) ≡ outcome.reached bytes.now result }
+{
+    read_parts(
+        bytes,
+        at,
+        head,
+        e,
+        |end, entered| read_line(bytes, end, head, entered),
+    )
 }
 
 // What follows a head of a kind of one.

@@ -3,10 +3,9 @@ ghost use Rattle.std.specs.Prelude.{◌≡◌, drop};
 ghost use Rattle.sedona_wkb.specs.Outcome as outcome;
 ghost use Rattle.sedona_wkb.specs.Wkb as wkb;
 
-use crate::coordinates::{Extents, Reached, read_one};
+use crate::coordinates::{Extents, Reached, read_one, read_parts};
 use crate::error::Refusal;
 use crate::heads::{COLLECTION, Head, POLYGON, read_part_head};
-use crate::numbers::{is_short, word_at};
 
 // One of many.
 fn read_member(bytes: &[u8], at: usize, parent: Head, e: Extents) -> Result<Reached, Refusal>
@@ -20,16 +19,13 @@ fn read_member(bytes: &[u8], at: usize, parent: Head, e: Extents) -> Result<Reac
 fn read_many(bytes: &[u8], at: usize, head: Head, e: Extents) -> Result<Reached, Refusal>
     ensures { outcome.entered e (wkb.read_many head (drop at bytes.now)) ≡ outcome.reached bytes.now result }
 {
-    if is_short(bytes, at, 4) {
-        return Err(Refusal::Length);
-    }
-    let count = word_at(bytes, at, head.low);
-    let mut end = at + 4;
-    let mut entered = e;
-    for part in 0..count {
-        (end, entered) = read_member(bytes, end, head, entered)?;
-    }
-    Ok((end, entered))
+    read_parts(
+        bytes,
+        at,
+        head,
+        e,
+        |end, entered| read_member(bytes, end, head, entered),
+    )
 }
 
 // What follows a head, where so many collections may still open.
@@ -66,16 +62,15 @@ fn read_collection(
 ) -> Result<Reached, Refusal>
     ensures { outcome.entered e (wkb.read_collection room head (drop at bytes.now)) ≡ outcome.reached bytes.now result }
 {
-    if is_short(bytes, at, 4) {
-        return Err(Refusal::Length);
-    }
-    let count = word_at(bytes, at, head.low);
-    let mut end = at + 4;
-    let mut entered = e;
-    for part in 0..count {
-        (end, entered) = read_part(bytes, end, head, room, entered)?;
-    }
-    Ok((end, entered))
+    read_parts(
+        bytes,
+        at,
+        head,
+        e,
+        |end, entered|
+            ensures { outcome.entered entered (wkb.read_part room head (drop end bytes.entry.now)) ≡ outcome.reached bytes.entry.now result }
+        { read_part(bytes, end, head, room, entered) },
+    )
 }
 
 // A geometry in a collection.

@@ -1,48 +1,30 @@
--- `refusals::node_refusal` meets its contract. Assumes nothing.
-use borrow.Author.Tests.{lt-ltb, le-ltb, eq-eqb, ne_eqb}
-use Rattle.sedona_expr.specs.Refusals.{node_refusal}
+-- `refusals::node_refusal` meets its contract, by the kind of the node. Assumes nothing.
+use mathlib.Core.Path.{◌∙◌}
+use Rattle.sedona_expr.proofs.NodeKinds.{leaf_refused, column_refused, pair_refused, other_passes, unread_refused}
 use Rattle.sedona_expr.proofs.refusals.node_refusal.Goals as goal
 
-pub returns-then-kind-gt-LAST_KIND : goal.returns-then-kind-gt-LAST_KIND
-unfolding node_refusal
-returns-then-kind-gt-LAST_KIND c = rw (← c.kind-kind.ensures, lt-ltb _ _ c.if-kind-gt-LAST_KIND.true)
+pub returns-in_err-try_from : goal.returns-in_err-try_from
+returns-in_err-try_from c =
+    let a = c.args in
+    let e = c.in_err-try_from.ensures in
+    unread_refused a.table.now.nodes.now a.lent a.node _ _ c.from_residual.ensures.1 (e.0, rw (← c.word.ensures) e.1)
 
-pub returns-then-kind-eq-HAS_Z : goal.returns-then-kind-eq-HAS_Z
-unfolding node_refusal
-returns-then-kind-eq-HAS_Z c = rw (c.column_refusal.ensures, ← c.kind-kind.ensures, le-ltb _ _ c.if-kind-gt-LAST_KIND.false, eq-eqb _ _ c.if-kind-eq-HAS_Z.true)
+pub returns-in-Intersects : goal.returns-in-Intersects
+returns-in-Intersects c =
+    let a = c.args in
+    c.leaf_refusal.ensures ∙ leaf_refused a.table.now.nodes.now a.lent a.node _ (c.in_ok-try_from.ensures ∙ c.word.ensures) c.in-Intersects.is
 
-pub returns-then-is_pair : goal.returns-then-is_pair
-unfolding node_refusal
-returns-then-is_pair c =
-    let word = c.kind-kind in
-    let if1 = c.if-kind-gt-LAST_KIND in
-    let if2 = c.if-kind-eq-HAS_Z in
-    let is_pair = c.is_pair in
-    let if3 = c.if-is_pair in
-    let pair_refusal = c.pair_refusal in
-    rw (pair_refusal.ensures, ← word.ensures, le-ltb _ _ if1.false, ne_eqb _ _ if2.false, ← is_pair.ensures, if3.true)
+pub returns-in-HasZ : goal.returns-in-HasZ
+returns-in-HasZ c =
+    let a = c.args in
+    c.column_refusal.ensures ∙ column_refused a.table.now.nodes.now a.lent a.node _ (c.in_ok-try_from.ensures ∙ c.word.ensures) c.in-HasZ.is
 
-pub returns-then-is_leaf : goal.returns-then-is_leaf
-unfolding node_refusal
-returns-then-is_leaf c =
-    let word = c.kind-kind in
-    let if1 = c.if-kind-gt-LAST_KIND in
-    let if2 = c.if-kind-eq-HAS_Z in
-    let is_pair = c.is_pair in
-    let if3 = c.if-is_pair in
-    let is_leaf = c.is_leaf in
-    let if4 = c.if-is_leaf in
-    let leaf_refusal = c.leaf_refusal in
-    rw (leaf_refusal.ensures, ← word.ensures, le-ltb _ _ if1.false, ne_eqb _ _ if2.false, ← is_pair.ensures, if3.false, ← is_leaf.ensures, if4.true)
+pub returns-in-And : goal.returns-in-And
+returns-in-And c =
+    let a = c.args in
+    c.pair_refusal.ensures ∙ pair_refused a.table.now.nodes.now a.lent a.node _ (c.in_ok-try_from.ensures ∙ c.word.ensures) c.in-And.is
 
-pub returns : goal.returns
-unfolding node_refusal
-returns c =
-    let word = c.kind-kind in
-    let if1 = c.if-kind-gt-LAST_KIND in
-    let if2 = c.if-kind-eq-HAS_Z in
-    let is_pair = c.is_pair in
-    let if3 = c.if-is_pair in
-    let is_leaf = c.is_leaf in
-    let if4 = c.if-is_leaf in
-    rw (← word.ensures, le-ltb _ _ if1.false, ne_eqb _ _ if2.false, ← is_pair.ensures, if3.false, ← is_leaf.ensures, if4.false)
+pub returns-in-LiteralFalse : goal.returns-in-LiteralFalse
+returns-in-LiteralFalse c =
+    let a = c.args in
+    other_passes a.table.now.nodes.now a.lent a.node _ (c.in_ok-try_from.ensures ∙ c.word.ensures) c.in-LiteralFalse.is

@@ -1,12 +1,14 @@
 -- `spatial_filter::box_may_match` meets its contract. Assumes nothing.
-use borrow.Author.Tests.{eq-eqb, ne_eqb}
+use borrow.Author.Tests.{ne_eqb}
 use Rattle.sedona_expr.specs.Tables.{leaf_of}
+use Rattle.sedona_expr.specs.declared.tables.Kind.{Kind}
+use Rattle.sedona_expr.proofs.NodeKinds.{same_kind}
 use Rattle.sedona_expr.proofs.spatial_filter.box_may_match.Goals as goal
 
-pub returns-then-kind-eq-INTERSECTS : goal.returns-then-kind-eq-INTERSECTS
+pub returns-in-Intersects : goal.returns-in-Intersects
 unfolding leaf_of
-returns-then-kind-eq-INTERSECTS c = rw (eq-eqb _ _ c.if-kind-eq-INTERSECTS.true, c.may_intersect.ensures)
+returns-in-Intersects c = rw (c.in-Intersects.is, c.may_intersect.ensures)
 
-pub returns-else-kind-eq-INTERSECTS : goal.returns-else-kind-eq-INTERSECTS
+pub returns-in_default : goal.returns-in_default
 unfolding leaf_of
-returns-else-kind-eq-INTERSECTS c = rw (ne_eqb _ _ c.if-kind-eq-INTERSECTS.false, c.may_cover.ensures)
+returns-in_default c = rw (ne_eqb _ 0 (λ e. c.in_default.not-Intersects (same_kind c.args.kind Kind.Intersects e)), c.may_cover.ensures)

@@ -8,6 +8,3 @@ returns-then-both_rise c =
     let rise = c.both_rise.ensures in
     let args = c.args in
     c.contains_interval.ensures ∙ sym (rising_contain args.self args.other rise.1.0 rise.1.1 (sym rise.0 ∙ c.if-both_rise.true))
-
-pub returns : goal.returns
-returns c = c.contains_by_pieces.ensures

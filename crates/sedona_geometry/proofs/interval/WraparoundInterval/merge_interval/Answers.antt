@@ -8,6 +8,3 @@ returns-then-both_rise c =
     let rise = c.both_rise.ensures in
     let args = c.args in
     rw (c.from_interval.ensures, c.merge_interval.ensures) (sym (rising_merge args.self args.other rise.1.0 rise.1.1 (sym rise.0 ∙ c.if-both_rise.true)))
-
-pub returns : goal.returns
-returns c = c.merge_any.ensures

@@ -1,5 +1,0 @@
--- `WraparoundInterval::full` meets its contract. Assumes nothing.
-use Rattle.sedona_geometry.proofs.interval.WraparoundInterval.full.Goals as goal
-
-pub returns : goal.returns
-returns c = rw (c.from_interval.ensures, c.full.ensures)
