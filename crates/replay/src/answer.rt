@@ -1,4 +1,5 @@
 // The answers of all calls, as text.
+use crate::told::{told_array, told_bounds, told_box, told_fee, told_fold, told_record};
 use geoparquet_bbox::error as layout;
 use geoparquet_bbox::layout::BboxArray;
 use replay_geometry::answer as geometry;
@@ -22,9 +23,11 @@ pub enum Answer {
     Geometry(geometry::Answer),
     Swept(Swept),
     Record(Result<GeoStatistics, Refusal>),
-    // Of a call that is lent a record: what it holds then.
-    Lent(Result<(), Refusal>, GeoStatistics),
+    Folded(Result<Option<GeoStatistics>, Refusal>),
+    // Of a call that is lent a record: its number, and what the record holds then.
+    Lent(u32, GeoStatistics),
     Evaluation(Result<Evaluation, Refusal>),
+    // Of a search: what it found, and the place that is told.
     Search(NameSearch, usize),
     FilterBox(Result<BoundingBox, Refusal>),
     Array(Result<BboxArray, layout::Refusal>),
@@ -39,56 +42,45 @@ impl fmt::Display for Answer {
             Answer::Geometry(answer) => write!(f, "{answer}"),
             Answer::Swept(swept) => write!(f, "{swept}"),
             Answer::Record(given) => {
-                let number = number_of(given);
-                let rec = given.unwrap_or(GeoStatistics::unspecified());
+                let (number, rec) = told_record(given);
                 write!(f, "{number} {}", RecordText(rec))
             }
-            Answer::Lent(given, rec) => write!(f, "{} {}", number_of(given), RecordText(rec)),
+            Answer::Folded(given) => {
+                let (number, rec) = told_fold(given);
+                write!(f, "{number} {}", RecordText(rec))
+            }
+            Answer::Lent(number, rec) => write!(f, "{number} {}", RecordText(rec)),
             Answer::Evaluation(Ok(Evaluation::MayMatch)) => f.write_str("may match"),
             Answer::Evaluation(Ok(Evaluation::CannotMatch)) => f.write_str("cannot match"),
             Answer::Evaluation(Err(e)) => write!(f, "refused {}", e.number()),
-            Answer::Search(found, names) => match found.place {
-                Some(place) => write!(f, "hit {place} {}", found.compared),
-                None => write!(f, "none {names} {}", found.compared),
-            },
-            Answer::FilterBox(given) => write_box(f, given),
+            Answer::Search(found, place) => {
+                let word = if found.place.is_some() { "hit" } else { "none" };
+                write!(f, "{word} {place} {}", found.compared)
+            }
+            Answer::FilterBox(given) => write_box(f, told_box(given)),
             Answer::Array(given) => {
-                let number = number_of(given);
-                write!(f, "{number} {}", ArrayText(given.unwrap_or(NO_ARRAY)))
+                let (number, array) = told_array(given);
+                write!(f, "{number} {}", ArrayText(array))
             }
-            Answer::ArrayBox(given) => write_box(f, given),
+            Answer::ArrayBox(given) => write_box(f, told_box(given)),
             Answer::Bounds(given) => {
-                write_box(f, given.map(|found| found.bounds))?;
-                write!(f, " {}", given.map_or(0, |found| found.types.bits()))
+                let (number, bounds, types) = told_bounds(given);
+                write_box(f, (number, bounds))?;
+                write!(f, " {}", types.bits())
             }
-            Answer::Fee(given) => write!(f, "{} {}", number_of(given), given.unwrap_or(0)),
+            Answer::Fee(given) => {
+                let (number, cents) = told_fee(given);
+                write!(f, "{number} {cents}")
+            }
         }
     }
 }
 
-// 0, or the number that refuses.
-fn number_of<T: Copy, E: Numbered + Copy>(given: Result<T, E>) -> u32 {
-    match given {
-        Ok(_) => 0,
-        Err(e) => e.number(),
-    }
-}
-
-// Writes a number, and a box; an empty one beside a refusal.
-fn write_box<W: fmt::Write, E: Numbered + Copy>(
-    f: &mut fmt::Formatter<W>,
-    given: Result<BoundingBox, E>,
-) -> fmt::Result {
-    let number = number_of(given);
-    let bounds = given.unwrap_or(BoundingBox::empty());
+// Writes a number and a box.
+fn write_box<W: fmt::Write>(f: &mut fmt::Formatter<W>, told: (u32, BoundingBox)) -> fmt::Result {
+    let (number, bounds) = told;
     write!(f, "{number} {}", BoxText(bounds))
 }
-
-// Beside a refusal.
-const NO_ARRAY: BboxArray = BboxArray {
-    count: 0,
-    numbers: [0.0; 6],
-};
 
 // How many numbers an array has, and its six places.
 #[derive(Clone, Copy)]

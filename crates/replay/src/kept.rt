@@ -1,5 +1,5 @@
 // What lines leave for later ones: the lists that sweeps go over, and the tables of filter calls.
-use crate::tables::{Nodes, Tables, chain};
+use crate::tables::Tables;
 use arrayvec::ArrayVec;
 use replay_geometry::boxes::Ends;
 use replay_geometry::sweep::{Lists, MOST_INTERVALS};
@@ -57,8 +57,8 @@ impl Kept {
             Setting::Values => self.lists.values = words.read_all()?,
             Setting::Intervals => self.lists.intervals = read_intervals(words)?,
             Setting::Sets => self.lists.sets = words.read_all()?,
-            Setting::Nodes => self.tables.nodes = read_nodes(words)?,
-            Setting::Chain => self.tables.nodes = read_chain(words)?,
+            Setting::Nodes => self.set_nodes(words.read_all()?)?,
+            Setting::Chain => self.set_chain(words)?,
             Setting::Literals => self.tables.literals = words.read_all()?,
             Setting::LiteralFlags => self.tables.literal_flags = words.read_all()?,
             Setting::Records => self.tables.records = words.read_all()?,
@@ -68,6 +68,22 @@ impl Kept {
             Setting::Names => self.tables.names = words.read_all()?,
         }
         Some(())
+    }
+
+    // Sets the nodes to these words, where they lie: a table of them is too large to be handed on.
+    fn set_nodes(&mut self, list: List<u32>) -> Option<()> {
+        self.tables.nodes.clear();
+        self.tables
+            .nodes
+            .try_extend_from_slice(list.as_slice())
+            .ok()
+    }
+
+    // Sets the nodes to so many words of a chain.
+    fn set_chain(&mut self, mut words: Words) -> Option<()> {
+        let count = words.read()?;
+        words.end()?;
+        self.tables.set_chain(count)
     }
 
     // Sets the flags of records. None of their types are known until a line says so.
@@ -96,17 +112,4 @@ fn read_intervals(words: Words) -> Option<ArrayVec<Ends, MOST_INTERVALS>> {
         return None;
     }
     ArrayVec::try_from(pairs).ok()
-}
-
-// The nodes whose words a line has.
-fn read_nodes(words: Words) -> Option<Nodes> {
-    let list: List<u32> = words.read_all()?;
-    Nodes::try_from(list.as_slice()).ok()
-}
-
-// So many words of a chain.
-fn read_chain(mut words: Words) -> Option<Nodes> {
-    let count = words.read()?;
-    words.end()?;
-    chain(count)
 }

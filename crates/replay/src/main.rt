@@ -13,6 +13,7 @@ mod names;
 mod records;
 mod tables;
 mod tariff;
+mod told;
 mod wkb;
 
 use kept::Kept;

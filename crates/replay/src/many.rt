@@ -1,12 +1,12 @@
 // Calls over many columns, more than a line can spell. Their names go up from 0 by a step, and the last
 // has a name of its own; the x of each record is its place.
 use crate::answer::Answer;
+use crate::lent::searched;
 use crate::names::CallOfMany;
 use crate::tables::Tables;
 use arrayvec::ArrayVec;
 use replay_text::words::Words;
 use sedona_expr::error::Refusal;
-use sedona_expr::names::find_name;
 use sedona_expr::spatial_filter::{Evaluation, evaluate};
 use sedona_expr::tables::{ENDS, Lookup, Records};
 use std::num::nearest_usize_to_f64;
@@ -23,7 +23,8 @@ pub fn answer_of_many(call: CallOfMany, mut words: Words, tables: &Tables) -> Op
         CallOfMany::FindName => {
             let name = words.read()?;
             let names = read_names(words)?;
-            Some(Answer::Search(find_name(names.as_slice(), name), names.len()))
+            let (found, place) = searched(names.as_slice(), name);
+            Some(Answer::Search(found, place))
         }
         CallOfMany::EvaluateByName => {
             let names = read_names(words)?;
@@ -38,6 +39,9 @@ fn read_names(mut words: Words) -> Option<ArrayVec<u32, MOST>> {
     let step = words.read()?;
     let last = words.read()?;
     words.end()?;
+    if count as usize > MOST {
+        return None;
+    }
     let mut names = ArrayVec::new();
     if count > 0 {
         names
@@ -48,26 +52,22 @@ fn read_names(mut words: Words) -> Option<ArrayVec<u32, MOST>> {
     Some(names)
 }
 
-// Whether the filter may match. No types are known.
+// Whether the filter may match. The x of each box is its place; no types are known. (The boxes are an array of
+// its own, which is lent: handed on, it would be copied.)
 fn evaluation(names: &[u32], tables: &Tables) -> Option<Result<Evaluation, Refusal>> {
     let count = names.len();
-    let ends = ends(count)?;
+    let mut ends = [0.0; MOST_ENDS];
+    for (place, bounds) in ends.chunks_exact_mut(ENDS).take(count).enumerate() {
+        if let [lo, hi, ..] = bounds {
+            *lo = nearest_usize_to_f64(place);
+            *hi = *lo;
+        }
+    }
     let records = Records::new(
-        ends.as_slice(),
+        ends.get(..ENDS * count)?,
         [1; MOST].get(..count)?,
         [0; MOST].get(..count)?,
         [0; MOST].get(..count)?,
     );
     Some(evaluate(&tables.filter(), &records, Lookup::ByName(names)))
-}
-
-// The ends of so many boxes whose x are their places, where there is room for them.
-fn ends(count: usize) -> Option<ArrayVec<f64, MOST_ENDS>> {
-    let mut all = ArrayVec::new();
-    for place in 0..count {
-        let x = nearest_usize_to_f64(place);
-        all.try_extend_from_slice(&[x, x, 0.0, 0.0, 0.0, 0.0, 0.0, 0.0])
-            .ok()?;
-    }
-    Some(all)
 }

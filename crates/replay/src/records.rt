@@ -1,10 +1,10 @@
 // The calls of records of statistics, which the words of a line spell.
 use crate::answer::Answer;
-use crate::lent::merged;
+use crate::lent::{folded, merged};
 use crate::names::CallOfRecords;
 use replay_geometry::boxes::box_of;
 use replay_text::words::Words;
-use sedona_expr::statistics::{GeoStatistics, fold};
+use sedona_expr::statistics::GeoStatistics;
 use sedona_expr::tables::ENDS;
 use sedona_geometry::bounding_box::BoundingBox;
 use sedona_geometry::types::GeometryTypeAndDimensionsSet;
@@ -20,24 +20,18 @@ pub fn answer_of_records(call: CallOfRecords, mut words: Words) -> Option<Answer
         }
         CallOfRecords::Merge => {
             let a = read_record(&mut words)?;
-            let (answer, rec) = merged(a, read_record(&mut words)?);
-            Answer::Lent(answer, rec)
+            let (number, rec) = merged(a, read_record(&mut words)?);
+            Answer::Lent(number, rec)
         }
         CallOfRecords::Fold => {
             let records = [read_record(&mut words)?, read_record(&mut words)?];
-            folded(&records)
+            Answer::Folded(folded(&records))
         }
-        CallOfRecords::FoldOne => folded(&[read_record(&mut words)?]),
-        CallOfRecords::FoldNone => folded(&[]),
+        CallOfRecords::FoldOne => Answer::Folded(folded(&[read_record(&mut words)?])),
+        CallOfRecords::FoldNone => Answer::Folded(folded(&[])),
     };
     words.end()?;
     Some(answer)
-}
-
-// The answer of a fold. Of no records it is UNSPECIFIED.
-fn folded(records: &[GeoStatistics]) -> Answer {
-    let rec = fold(records).map(|folded| folded.unwrap_or(GeoStatistics::unspecified()));
-    Answer::Record(rec)
 }
 
 // The record that the next words spell: a box, a type set, totals and extents.

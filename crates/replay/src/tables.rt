@@ -32,6 +32,16 @@ impl Tables {
         )
     }
 
+    // Sets the nodes to so many words of a chain, where there is room for them. A chain hands the answer of
+    // its lowest node up to the root: each And has an Unknown beside it, and each Or a LiteralFalse.
+    pub fn set_chain(&mut self, count: u32) -> Option<()> {
+        if count as usize > MOST_NODE_WORDS {
+            return None;
+        }
+        self.nodes.clear();
+        self.nodes.extend((0..count).map(chain_word)).ok()
+    }
+
     // The records, as they are lent.
     pub fn records(&self) -> Records<'_> {
         Records::new(
@@ -41,14 +51,6 @@ impl Tables {
             self.types_known.as_slice(),
         )
     }
-}
-
-// So many words of a chain, where there is room for them. A chain hands the answer of its lowest node up
-// to the root: each And has an Unknown beside it, and each Or a LiteralFalse.
-pub fn chain(count: u32) -> Option<Nodes> {
-    let mut nodes = Nodes::new();
-    nodes.extend((0..count).map(chain_word)).ok()?;
-    Some(nodes)
 }
 
 // A word of the chain. Node 0 is an Intersects of the first literal and the first column; from then

@@ -1,11 +1,13 @@
 // The calls of the tariff, of three rates and a record, or of three rates and sizes, with many of which a
 // case can ask for more than a line can spell.
 use crate::answer::Answer;
+use crate::lent::fee;
 use crate::names::CallOfTariff;
 use crate::records::read_record;
 use arrayvec::ArrayVec;
 use replay_text::words::{MOST_WORDS, Words};
-use scan_tariff::tariff::{Rates, fee_of_record, fee_of_sizes};
+use scan_tariff::error::Refusal;
+use scan_tariff::tariff::{Rates, fee_of_record};
 
 // How many sizes a line can spell behind the rates.
 const SPELLED: usize = MOST_WORDS - 3;
@@ -20,7 +22,7 @@ pub fn answer_of_tariff(call: CallOfTariff, mut words: Words) -> Option<Answer> 
         second: words.read()?,
         third: words.read()?,
     };
-    let fee = match call {
+    let given = match call {
         CallOfTariff::FeeOfRecord => {
             let rec = read_record(&mut words)?;
             words.end()?;
@@ -28,26 +30,34 @@ pub fn answer_of_tariff(call: CallOfTariff, mut words: Words) -> Option<Answer> 
         }
         CallOfTariff::FeeOfSizes => {
             let sizes: ArrayVec<Option<i64>, SPELLED> = words.read_all()?;
-            fee_of_sizes(sizes.as_slice(), rates)
+            fee(sizes.as_slice(), rates)
         }
         CallOfTariff::FeeOfSizesOfMany => {
-            let sizes = read_many_sizes(words)?;
-            fee_of_sizes(sizes.as_slice(), rates)
+            let count: u32 = words.read()?;
+            let size = words.read()?;
+            let last = words.read()?;
+            words.end()?;
+            if count as usize > MOST_SIZES {
+                return None;
+            }
+            fee_of_many(count as usize, size, last, rates)?
         }
     };
-    Some(Answer::Fee(fee))
+    Some(Answer::Fee(given))
 }
 
-// So many sizes, which are all the same but for the last, where there is room for them.
-fn read_many_sizes(mut words: Words) -> Option<ArrayVec<Option<i64>, MOST_SIZES>> {
-    let count: u32 = words.read()?;
-    let size = words.read()?;
-    let last = words.read()?;
-    words.end()?;
-    let mut sizes = ArrayVec::new();
-    if count > 0 {
-        sizes.extend((0..count - 1).map(|_| size)).ok()?;
-        sizes.try_push(last).ok()?;
+// The fee of so many sizes, which are all the same but for the last, where there is room for them. (They are
+// an array of its own, which is lent: handed on, it would be copied.)
+fn fee_of_many(
+    count: usize,
+    size: Option<i64>,
+    last: Option<i64>,
+    rates: Rates,
+) -> Option<Result<u64, Refusal>> {
+    let mut sizes: [Option<i64>; MOST_SIZES] = [size; MOST_SIZES];
+    let lent = sizes.get_mut(..count)?;
+    if let Some(place) = lent.last_mut() {
+        *place = last;
     }
-    Some(sizes)
+    Some(fee(lent, rates))
 }

@@ -4,16 +4,15 @@ use crate::answer::Answer;
 use crate::line::SIZE;
 use crate::names::CallOfWkb;
 use arrayvec::ArrayVec;
+use replay_text::read::{Bytes, MOST_BYTES};
 use replay_text::words::Words;
-use sedona_wkb::bounds::wkb_bounds;
+use sedona_wkb::bounds::{WkbBounds, wkb_bounds};
+use sedona_wkb::error::Refusal;
 
 // The bytes that a line spells, two digits each.
 type Spelled = ArrayVec<u8, SPELLED>;
 
 const SPELLED: usize = SIZE / 2;
-
-// The most bytes that a case lends: one more than are read of a geometry.
-const MOST_BYTES: usize = 65537;
 
 // What the call answers to words: digits, or how many bytes there are and digits.
 pub fn answer_of_wkb(call: CallOfWkb, mut words: Words) -> Option<Answer> {
@@ -25,20 +24,19 @@ pub fn answer_of_wkb(call: CallOfWkb, mut words: Words) -> Option<Answer> {
         CallOfWkb::BoundsOfPadded => {
             let count: u32 = words.read()?;
             let spelled: Spelled = words.read_bytes()?;
-            let bytes = padded(spelled.as_slice(), count as usize)?;
-            wkb_bounds(bytes.as_slice())
+            bounds_of_padded(spelled.as_slice(), count as usize)?
         }
     };
     Some(Answer::Bounds(bounds))
 }
 
-// So many bytes, of which the first are spelled, where there is room for them.
-fn padded(spelled: &[u8], count: usize) -> Option<ArrayVec<u8, MOST_BYTES>> {
+// What the call answers to so many bytes, of which the first are spelled, where there is room for them. (The
+// bytes are an array of its own, which is lent: handed on, they would be copied.)
+fn bounds_of_padded(spelled: &[u8], count: usize) -> Option<Result<WkbBounds, Refusal>> {
     if count < spelled.len() {
         return None;
     }
-    let mut bytes = ArrayVec::new();
-    bytes.try_extend_from_slice(spelled).ok()?;
-    bytes.extend((spelled.len()..count).map(|_| 0)).ok()?;
-    Some(bytes)
+    let mut bytes: Bytes = [0; MOST_BYTES];
+    bytes.get_mut(..spelled.len())?.copy_from_slice(spelled);
+    Some(wkb_bounds(bytes.get(..count)?))
 }

@@ -5,6 +5,12 @@ use sedona_geometry::bounding_box::BoundingBox;
 use sedona_geometry::interval::{Interval, WraparoundInterval};
 use std::iter::once;
 
+// How many words a box is.
+pub const BOX: usize = 8;
+
+// How many words two boxes are.
+pub const TWO_BOXES: usize = 2 * BOX;
+
 // The two ends of an interval.
 pub type Ends = [f64; 2];
 
@@ -14,7 +20,7 @@ pub fn read_box(words: &mut Words) -> Option<BoundingBox> {
 }
 
 // The box of eight ends, of which those of z, and those of m, can both be missing.
-pub fn box_of(ends: [Option<f64>; 8]) -> Option<BoundingBox> {
+pub fn box_of(ends: [Option<f64>; BOX]) -> Option<BoundingBox> {
     let [x_lo, x_hi, y_lo, y_hi, z_lo, z_hi, m_lo, m_hi] = ends;
     let x = [x_lo?, x_hi?];
     let y = [y_lo?, y_hi?];

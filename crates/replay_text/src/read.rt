@@ -5,6 +5,11 @@ use std::str::FromStr;
 // The largest integer of a case. Up to here every integer is a double.
 pub const LARGEST: u64 = 9007199254740992;
 
+// The most bytes that a case lends: one more than are read of a geometry.
+pub const MOST_BYTES: usize = 65537;
+
+pub type Bytes = [u8; MOST_BYTES];
+
 // What a word can spell.
 pub trait FromWord: Sized + Drop {
     // What the word spells; none where it spells no such thing.

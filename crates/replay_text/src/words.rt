@@ -1,36 +1,52 @@
 // The words of a line, read one after the other.
 use crate::read::{FromWord, hex_digit};
 use arrayvec::ArrayVec;
-use std::str::Split;
 
 // The most words that a line can have behind its first.
 pub const MOST_WORDS: usize = 48;
 
+// How many words a record is: a box, a type set, totals from TOTALS on and extents from EXTENTS on.
+pub const RECORD: usize = 18;
+
+pub const TYPES: usize = 8;
+
+pub const TOTALS: usize = 9;
+
+pub const EXTENTS: usize = 16;
+
 // What the words of a line spell, where all spell the same.
 pub type List<T> = ArrayVec<T, MOST_WORDS>;
 
-// The words that are not read yet. Between two there is one space.
-#[derive(Drop)]
+// The words that are not read yet, where there are any. Between two there is one space.
+#[derive(Clone, Copy)]
 pub struct Words<'a> {
-    words: Split<'a, char>,
+    left: Option<&'a str>,
 }
 
 impl<'a> Words<'a> {
     // All words of a line.
     pub fn of(line: &'a str) -> Words<'a> {
-        Words {
-            words: line.split(' '),
-        }
+        Words { left: Some(line) }
     }
 
     // The next word.
     pub fn next_word(&mut self) -> Option<&'a str> {
-        self.words.next()
+        let left = self.left?;
+        match left.split_once(' ') {
+            Some((word, behind)) => {
+                self.left = Some(behind);
+                Some(word)
+            }
+            None => {
+                self.left = None;
+                Some(left)
+            }
+        }
     }
 
     // What the next word spells.
     pub fn read<T: FromWord>(&mut self) -> Option<T> {
-        T::from_word(self.words.next()?)
+        T::from_word(self.next_word()?)
     }
 
     // What the next words spell.
@@ -47,7 +63,10 @@ impl<'a> Words<'a> {
     // What all words spell, which are no more than the list has room for.
     pub fn read_all<T: FromWord + Default, const ROOM: usize>(self) -> Option<ArrayVec<T, ROOM>> {
         let mut list = ArrayVec::new();
-        for word in self.words {
+        let Some(left) = self.left else {
+            return Some(list);
+        };
+        for word in left.split(' ') {
             list.try_push(T::from_word(word)?).ok()?;
         }
         Some(list)
@@ -56,8 +75,11 @@ impl<'a> Words<'a> {
     // The bytes that all words spell in hex digits, two a byte, wherever a word ends.
     pub fn read_bytes<const ROOM: usize>(self) -> Option<ArrayVec<u8, ROOM>> {
         let mut bytes = ArrayVec::new();
+        let Some(left) = self.left else {
+            return Some(bytes);
+        };
         let mut high = None;
-        for word in self.words {
+        for word in left.split(' ') {
             for byte in word.bytes() {
                 let digit = hex_digit(byte)?;
                 high = match high {
@@ -73,7 +95,7 @@ impl<'a> Words<'a> {
     }
 
     // Nothing, where no word is left.
-    pub fn end(mut self) -> Option<()> {
-        self.words.next().is_none().then_some(())
+    pub fn end(self) -> Option<()> {
+        self.left.is_none().then_some(())
     }
 }

@@ -2,13 +2,14 @@
 use mathlib.Core.Path.{◌≡◌, refl, sym, ap, ◌∙◌}
 use mathlib.Core.Bool.{Bool, true, false, not, ◌&&◌, ◌||◌, cond, and-true, and_assoc}
 use mathlib.Core.List.{List, [], ◌∷◌, ◌++◌}
-use Prim.Native.Nat.{ℕ, zero, suc, ◌+◌, ◌≤◌, ◌<◌}
+use Prim.Native.Nat.{ℕ, zero, suc, ◌+◌, ◌-◌, ◌≤◌, ◌<◌}
 use native.Mathlib.Numerals.{add-one}
 use native.Mathlib.Omega.{arith}
 use lib.Dec.{eqb}
-use lib.ListN.{length, get_or, drop, length-drop, length-append, drop_of_length-le}
+use lib.ListN.{length, get_or, take, drop, length-drop, length-append, drop_of_length-le}
 use lib.Seq.{drop-cons, drop-drop}
 use borrow.Author.Tests.{eqb-true, eqb-false, eq-eqb, ne_eqb, ltb-false}
+use Rattle.std.proofs.lemmas.List.{take-append-drop, length-take-le}
 use Rattle.sedona_geometry.proofs.Booleans.{fails}
 use Rattle.sedona_geometry.specs.Lists.{are_all}
 use Rattle.sedona_expr.specs.Within.{is_other, behind}
@@ -42,6 +43,18 @@ pass (m ∷ ms) ns n e = go (eqb m n) (pass ms ns n) e
         → cond b hit_at_once (further (find_name (ms ++ ns) n)) ≡ behind (suc (length ms)) (find_name ns n)
     go true f e = absurd (fails (sym e) tt)
     go false f e = ap further (f e) ∙ same_search (omega arith) (omega arith)
+
+-- the same of the first so many of a list
+pass_first : (ms : List ℕ) (k n : ℕ) → k ≤ length ms → are_all (is_other n) (take k ms) ≡ true → find_name ms n ≡ behind k (find_name (drop k ms) n)
+pass_first ms k n h e =
+    ap (λ xs. find_name xs n) (sym (take-append-drop k ms)) ∙ pass (take k ms) (drop k ms) n e ∙ ap (λ l. behind l (find_name (drop k ms) n)) (length-take-le k ms h)
+
+-- a step of a search by its places: from one to a later one, past names of which none is a hit
+pub find_past : (ns : List ℕ) (i j n : ℕ) → i ≤ j → j ≤ length ns → are_all (is_other n) (take (j - i) (drop i ns)) ≡ true
+    → behind i (find_name (drop i ns) n) ≡ behind j (find_name (drop j ns) n)
+find_past ns i j n h l e =
+    let d : i + (j - i) ≡ j = omega arith in
+    ap (behind i) (pass_first (drop i ns) (j - i) n (omega (arith, length-drop i ns)) e) ∙ rw (drop-drop (j - i) i ns, d) (same_search (omega arith) (omega arith))
 
 -- The first so many names are no hit, and these are left.
 pub record Passed (ns : List ℕ) (n i : ℕ) (left : List ℕ) : Type 0 where

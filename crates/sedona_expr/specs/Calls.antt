@@ -1,4 +1,4 @@
--- The three calls of a filter: what refuses it (Refusals), or else the answer or the box (SpatialFilter) of the tree that its table spells (Tables).
+-- The two calls of a filter: what refuses it (Refusals), or else the answer or the box (SpatialFilter) of the tree that its table spells (Tables).
 use Rattle.std.specs.Prelude.{Bool, cond, ℕ, eqb, Result, Ok, Err}
 use Rattle.sedona_geometry.specs.BoundingBox.{numbered}
 use Rattle.sedona_geometry.specs.BoundingBox.{NumberedBox}
@@ -11,7 +11,7 @@ use Rattle.sedona_expr.specs.declared.spatial_filter.Evaluation.{Evaluation}
 unfoldable pub outcome : ℕ → Bool → Result Evaluation ℕ
 outcome n b = cond (eqb n 0) (cond b (Ok Evaluation.MayMatch) (Ok Evaluation.CannotMatch)) (Err n)
 
--- `evaluate_by_position` and `evaluate_by_name`.
+-- `evaluate`, by position or by name.
 abbrev pub evaluate : Lookup → Table → Records → Result Evaluation ℕ
 evaluate l t r = outcome (refusal l t r) (answer (record_of l r) (root t))
 

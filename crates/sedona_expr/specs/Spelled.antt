@@ -1,11 +1,13 @@
 -- What the structs of slices that are lent to a filter call spell, and the numbers of the kinds of nodes.
-use Rattle.std.specs.Prelude.{ℕ}
+use Rattle.std.specs.Prelude.{◌≡◌, ℕ, ◌<◌, Result, MatchResult}
 use Rattle.sedona_expr.specs.Tables as tables
 use Rattle.sedona_expr.specs.declared.tables.Boxes.{Boxes}
 use Rattle.sedona_expr.specs.declared.tables.Table.{Table}
 use Rattle.sedona_expr.specs.declared.tables.Records.{Records}
 use Rattle.sedona_expr.specs.declared.tables.Lookup.{Lookup}
 use Rattle.sedona_expr.specs.declared.tables.Kind.{Kind}
+use Rattle.sedona_expr.specs.declared.error.Refusal.{Refusal}
+use Rattle.sedona_expr.specs.declared.error.Refusal.TheVariants.{UnknownKind}
 
 abbrev pub boxes : Boxes → tables.Boxes
 boxes b = tables.boxes b.doubles.now b.flags.now
@@ -28,3 +30,7 @@ kind Kind.And = 3
 kind Kind.Or = 4
 kind Kind.LiteralFalse = 5
 kind Kind.Unknown = 6
+
+-- The kind of a word; refused where it is over 6.
+abbrev pub Reads : ℕ → Result Kind Refusal → Type 0
+Reads word r = MatchResult r (λ k. kind k ≡ word) (λ e. (e ≡ UnknownKind) × (6 < word))

@@ -1,24 +1,18 @@
 -- What contracts of private functions alone cite. Who reads the calls and the theorems need not read it: none of them rests on it.
-use Rattle.std.specs.Prelude.{◌≡◌, Bool, true, false, not, ◌&&◌, cond, List, [], ◌∷◌, ℕ, ◌+◌, ◌*◌, ◌/◌, ◌%◌, ◌^◌, ◌≤◌, ◌<◌, eqb, ltb, length, get_or, take, Result, Ok, Err, MatchResult, Option, ℤ, Some, None}
+use Rattle.std.specs.Prelude.{◌≡◌, Bool, true, false, not, ◌&&◌, cond, List, [], ◌∷◌, ℕ, ◌+◌, ◌*◌, ◌/◌, ◌%◌, ◌^◌, ◌≤◌, ◌<◌, eqb, ltb, length, get_or, take, Result, Ok, Err, Option, ℤ, Some, None}
 use Rattle.sedona_expr.specs.Names.{find_name, Search}
 use Rattle.sedona_expr.specs.Statistics.{sum_is_outside, add_totals, Which, total}
 use Rattle.sedona_expr.specs.declared.error.Refusal.{Refusal}
-use Rattle.sedona_expr.specs.declared.error.Refusal.TheVariants.{Overflow, UnknownKind}
+use Rattle.sedona_expr.specs.declared.error.Refusal.TheVariants.{Overflow}
 use Rattle.sedona_expr.specs.Tables.{word, kind, is_pair, has_children}
 use Rattle.sedona_expr.specs.declared.statistics.GeoStatistics.{GeoStatistics}
-use Rattle.sedona_expr.specs.declared.tables.Kind.{Kind}
 use Rattle.sedona_expr.specs.declared.tables.Pair.{Pair}
-use Rattle.sedona_expr.specs.Spelled as spelled
 
 -- ---- nodes
 
 -- All four words of the node are there.
 abbrev pub HasNode : List ℕ → ℕ → Type 0
 HasNode ns n = 4 * n + 4 ≤ length ns
-
--- The kind of a word; refused where it is over 6.
-abbrev pub Reads : ℕ → Result Kind Refusal → Type 0
-Reads word r = MatchResult r (λ k. spelled.kind k ≡ word) (λ e. (e ≡ UnknownKind) × (6 < word))
 
 -- A word over 6 is read as 6.
 unfoldable pub kind_or_unknown : ℕ → ℕ

@@ -54,7 +54,7 @@ impl Kind {
 impl TryFrom<u32> for Kind {
     type Error = Refusal;
 
-    ghost try_from_gives = { within.Reads };
+    ghost try_from_gives = { spelled.Reads };
 
     fn try_from(word: u32) -> Result<Self, Refusal> {
         if word > LAST_KIND {
