@@ -311,3 +311,7 @@ pub carry_no_writing : Writing carry → ⊥
 carry_no_writing w =
     let b : All (λ b. b < 256) carry = subst (All (λ b. b < 256)) (sym w.bytes) (encode_bytes w.choices w.dims w.geometry) in
     omega (arith, b.1.1.1.1.1.0)
+
+-- ---- beside a number stands no type
+no_type : (n : ℕ) → types.bits (refusal n).types ≡ 0
+no_type n = refl
